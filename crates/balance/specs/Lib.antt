@@ -1,0 +1,5 @@
+pub mod Refusals
+pub mod Ranges
+pub mod Cells
+pub mod Meanings
+pub mod Tables

@@ -1,0 +1,6 @@
+// Interval linear systems of a steady heat balance: refusals, ranges, the interface of a system, tables, and a point against the balance.
+pub mod cell;
+pub mod range;
+pub mod refusal;
+pub mod system;
+pub mod table;
