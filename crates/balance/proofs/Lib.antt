@@ -1,1 +1,4 @@
+pub mod Integers
+pub mod Ranges
+pub mod Searches
 pub mod Tables

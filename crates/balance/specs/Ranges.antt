@@ -3,6 +3,8 @@ use Prim.Native.Nat.{ℕ, zero, suc}
 use mathlib.Core.Bool.{Bool, true, false, cond}
 use lib.IntN.{ℤ, pos, negℤ, _+ℤ_, _-ℤ_, _*ℤ_}
 use lib.Signed.{_≤ℤ_, leZ}
+use mir.Syntax.{w64}
+use mir.Val.{SFits}
 use Rattle.std.specs.Numbers.{minZ, maxZ}
 use Rattle.std.specs.declared.result.Result.{Result}
 use Rattle.std.specs.declared.result.Result.the-variants.{Ok, Err}
@@ -34,6 +36,10 @@ pub record _⊆_ (r s : Range) : Type 0 where
 -- in order, and no end beyond ±limit
 abbrev pub Between : ℕ → Range → Type 0
 Between limit r = (negℤ (pos limit) ≤ℤ r .lower) × (r .lower ≤ℤ r .upper) × (r .upper ≤ℤ pos limit)
+
+-- both ends are numbers of 64 bits
+abbrev pub Fits64 : Range → Type 0
+Fits64 r = SFits w64 (r .lower) × SFits w64 (r .upper)
 
 -- what `Range::new` answers
 abbrev pub range-making : ℤ → ℤ → Result Range Refusal

@@ -1,5 +1,7 @@
 // Interval linear systems of a steady heat balance: refusals, ranges, the interface of a system, tables, and a point against the balance.
 pub mod cell;
+mod interval;
+pub mod places;
 pub mod range;
 pub mod refusal;
 pub mod system;
