@@ -1,4 +1,5 @@
 pub mod Integers
 pub mod Ranges
+pub mod RowSums
 pub mod Searches
 pub mod Tables

@@ -1,5 +1,5 @@
 -- The arithmetic of ranges extends that of whole numbers, and stays within bounds.
-use Prim.Native.Nat.{ℕ, zero, suc, _*_, _≤_}
+use Prim.Native.Nat.{ℕ, zero, suc, _*_, _^_, _≤_}
 use native.Mathlib.Omega.{arith}
 use mathlib.Core.Path.{_≡_, subst}
 use lib.IntN.{ℤ, pos, natAbs, _+ℤ_, _-ℤ_, _*ℤ_, *ℤ-comm}
@@ -91,6 +91,9 @@ times-between-bounds a x m n h k =
       (product-within (a .upper) (x .lower) m n (f .1) (g .0)) (product-within (a .upper) (x .upper) m n (f .1) (g .1))
 
 -- ---- 64 bits
+
+pub narrow-fits : (limit : ℕ) (r : Range) → limit ≤ 2 ^ 62 → Between limit r → Fits64 r
+narrow-fits limit r l h = (omega (arith, ints), omega (arith, ints))
 
 pub products-fit : (a b : Range) → Fits64 (times a b) → SFits w64 (a .lower *ℤ b .lower) × SFits w64 (a .lower *ℤ b .upper) × SFits w64 (a .upper *ℤ b .lower) × SFits w64 (a .upper *ℤ b .upper)
 products-fit a b h = four (least p q s t) (most p q s t) (h .0) (h .1)

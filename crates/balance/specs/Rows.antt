@@ -32,9 +32,9 @@ abbrev pub product : Option Range → Range → Option Range
 product None x = None
 product (Some a) x = cond (small x) (Some (times a x)) None
 
--- what column j adds: coefficient × range, and [0, 0] for the column that is left out
-abbrev pub term : Meaning → List Range → ℕ → ℕ → ℕ → Option Range
-term m xs i without j = cond (eqb j without) (Some (only (pos 0))) (product (found (coefficient-answer m i j)) (at xs j))
+-- what column j of row i adds for a node's range x: coefficient × x, and [0, 0] for the column that is left out
+abbrev pub term : Meaning → ℕ → ℕ → ℕ → Range → Option Range
+term m i without j x = cond (eqb j without) (Some (only (pos 0))) (product (found (coefficient-answer m i j)) x)
 
 abbrev pub added : Option Range → Option Range → Option Range
 added None o = None
@@ -46,5 +46,10 @@ abbrev pub sum-of : (ℕ → Option Range) → ℕ → Option Range
 sum-of f zero = Some (only (pos 0))
 sum-of f (suc k) = added (sum-of f k) (f (suc k))
 
+-- the terms of row i over the ranges of the nodes
+abbrev pub terms : Meaning → List Range → ℕ → ℕ → ℕ → Option Range
+terms m xs i without j = term m i without j (at xs j)
+
+-- the sum of row i over the ranges of all nodes, but for one column
 abbrev pub row-sum : Meaning → List Range → ℕ → ℕ → Option Range
-row-sum m xs i without = sum-of (term m xs i without) (length xs)
+row-sum m xs i without = cond (eqb (length xs) (m .size)) (sum-of (terms m xs i without) (length xs)) None

@@ -4,5 +4,6 @@ mod interval;
 pub mod places;
 pub mod range;
 pub mod refusal;
+mod rows;
 pub mod system;
 pub mod table;

@@ -1,0 +1,17 @@
+use Prim.Native.Nat.{_^_}
+use native.Mathlib.Omega.{arith}
+use mathlib.Core.Path.{_≡_, sym, ap, subst, _∙_}
+use Rattle.std.specs.declared.option.Option.{Option}
+use Rattle.std.specs.declared.option.Option.the-variants.{Some}
+use Rattle.balance.specs.declared.range.Range.{Range}
+use Rattle.balance.specs.Ranges.{Between}
+use Rattle.balance.specs.Rows.{found}
+use Rattle.balance.proofs.RowSums.{coefficient-narrow, held}
+use Rattle.balance.proofs.rows.coefficient.Needs as need
+
+pub returns-in-Ok : need.returns-in-Ok
+returns-in-Ok g c =
+    let s = c .args .system .now in
+    let b = coefficient-narrow (g .S·System .meaning s) (g .S·System·met .lawful s) (c .args .row) (c .args .column) (c .in-Ok .lower) (c .in-Ok .upper) (c .in-Ok .ensures tt) in
+    let e = held (2 ^ 20) (c .in-Ok .lower) (c .in-Ok .upper) (omega arith) b in
+    record { is = ap (λ (r : Range). Some r) e ∙ ap found (c .in-Ok .ensures tt); narrow = subst (Between (2 ^ 20)) (sym e) b }
