@@ -17,13 +17,15 @@ use Rattle.balance.proofs.Integers.{product-within, between-low, between-high}
 
 pub plus-extends : IntervalExtension _+ℤ_ plus
 plus-extends = record {
-    holds-every-result = λ a b p q h k. (omega (arith, ints), omega (arith, ints));
-    keeps-inclusion = λ a b c d o o′ h k. omega (arith, ints) }
+  holds-every-result = λ a b p q h k. (omega (arith, ints), omega (arith, ints));
+  keeps-inclusion = λ a b c d o o′ h k. omega (arith, ints);
+}
 
 pub minus-extends : IntervalExtension _-ℤ_ minus
 minus-extends = record {
-    holds-every-result = λ a b p q h k. (omega (arith, ints), omega (arith, ints));
-    keeps-inclusion = λ a b c d o o′ h k. omega (arith, ints) }
+  holds-every-result = λ a b p q h k. (omega (arith, ints), omega (arith, ints));
+  keeps-inclusion = λ a b c d o o′ h k. omega (arith, ints);
+}
 
 -- ---- products
 
@@ -43,9 +45,10 @@ every-product P between a x ll lu ul uu p q ip iq =
 product-inside : (a x : Range) (p q : ℤ) → Inside p a → Inside q x → Inside (p *ℤ q) (times a x)
 product-inside a x p q ip iq =
     let l = least (a .lower *ℤ x .lower) (a .lower *ℤ x .upper) (a .upper *ℤ x .lower) (a .upper *ℤ x .upper) in
-    let u = most (a .lower *ℤ x .lower) (a .lower *ℤ x .upper) (a .upper *ℤ x .lower) (a .upper *ℤ x .upper) in
-    (every-product (λ t. times a x .lower ≤ℤ t) (between-low (times a x .lower)) a x (l .0) (l .1) (l .2) (l .3) p q ip iq,
-    every-product (λ t. t ≤ℤ times a x .upper) (between-high (times a x .upper)) a x (u .0) (u .1) (u .2) (u .3) p q ip iq)
+    let u = most (a .lower *ℤ x .lower) (a .lower *ℤ x .upper) (a .upper *ℤ x .lower) (a .upper *ℤ x .upper) in (
+      every-product (λ t. times a x .lower ≤ℤ t) (between-low (times a x .lower)) a x (l .0) (l .1) (l .2) (l .3) p q ip iq,
+      every-product (λ t. t ≤ℤ times a x .upper) (between-high (times a x .upper)) a x (u .0) (u .1) (u .2) (u .3) p q ip iq,
+    )
 
 least-in : (z a b c d : ℤ) → z ≤ℤ a → z ≤ℤ b → z ≤ℤ c → z ≤ℤ d → z ≤ℤ minZ (minZ a b) (minZ c d)
 least-in z a b c d ha hb hc hd = omega (arith, ints, clamps)
@@ -65,7 +68,8 @@ products-in a x c y oa ox h k =
     let uu = product-inside c y (a .upper) (x .upper) au xu in
     record {
       low = least-in _ _ _ _ _ (ll .0) (lu .0) (ul .0) (uu .0);
-      high = most-in _ _ _ _ _ (ll .1) (lu .1) (ul .1) (uu .1) }
+      high = most-in _ _ _ _ _ (ll .1) (lu .1) (ul .1) (uu .1);
+    }
 
 pub times-extends : IntervalExtension _*ℤ_ times
 times-extends = record { holds-every-result = product-inside; keeps-inclusion = products-in }
@@ -87,8 +91,8 @@ times-between-bounds a x m n h k =
     let f = sizes-within m a h in
     let g = sizes-within n x k in
     four-between (a .lower *ℤ x .lower) (a .lower *ℤ x .upper) (a .upper *ℤ x .lower) (a .upper *ℤ x .upper) (m * n)
-      (product-within (a .lower) (x .lower) m n (f .0) (g .0)) (product-within (a .lower) (x .upper) m n (f .0) (g .1))
-      (product-within (a .upper) (x .lower) m n (f .1) (g .0)) (product-within (a .upper) (x .upper) m n (f .1) (g .1))
+    (product-within (a .lower) (x .lower) m n (f .0) (g .0)) (product-within (a .lower) (x .upper) m n (f .0) (g .1))
+    (product-within (a .upper) (x .lower) m n (f .1) (g .0)) (product-within (a .upper) (x .upper) m n (f .1) (g .1))
 
 -- ---- 64 bits
 
@@ -100,14 +104,19 @@ products-fit a b h = four (least p q s t) (most p q s t) (h .0) (h .1)
   where
     p : ℤ
     p = a .lower *ℤ b .lower
+
     q : ℤ
     q = a .lower *ℤ b .upper
+
     s : ℤ
     s = a .upper *ℤ b .lower
+
     t : ℤ
     t = a .upper *ℤ b .upper
+
     fits : (l u z : ℤ) → SFits w64 l → SFits w64 u → l ≤ℤ z → z ≤ℤ u → SFits w64 z
     fits l u z f g h k = omega (arith, ints)
+
     four : (minZ (minZ p q) (minZ s t) ≤ℤ p) × (minZ (minZ p q) (minZ s t) ≤ℤ q) × (minZ (minZ p q) (minZ s t) ≤ℤ s) × (minZ (minZ p q) (minZ s t) ≤ℤ t) → (p ≤ℤ maxZ (maxZ p q) (maxZ s t)) × (q ≤ℤ maxZ (maxZ p q) (maxZ s t)) × (s ≤ℤ maxZ (maxZ p q) (maxZ s t)) × (t ≤ℤ maxZ (maxZ p q) (maxZ s t)) → SFits w64 (minZ (minZ p q) (minZ s t)) → SFits w64 (maxZ (maxZ p q) (maxZ s t)) → SFits w64 p × SFits w64 q × SFits w64 s × SFits w64 t
     four l u f g = (fits _ _ p f g (l .0) (u .0), fits _ _ q f g (l .1) (u .1), fits _ _ s f g (l .2) (u .2), fits _ _ t f g (l .3) (u .3))
 

@@ -40,7 +40,7 @@ record Found (f : ℕ → Option Refusal) (n : ℕ) (e : Refusal) : Type 0 where
   there : f index ≡ Some e
   before : (j : ℕ) → 1 ≤ j → j < index → f j ≡ None
 
-none-of : (f : ℕ → Option Refusal) (n : ℕ) → first f n ≡ None → (j : ℕ) → 1 ≤ j → j ≤ n → f j ≡ None
+pub none-of : (f : ℕ → Option Refusal) (n : ℕ) → first f n ≡ None → (j : ℕ) → 1 ≤ j → j ≤ n → f j ≡ None
 none-of f zero h j p q = absurd (omega arith)
 none-of f (suc n) h j p q = by (first f n) refl (ℕ-discrete j (suc n)) (λ e r. none-of f n e j p r)
   where
@@ -55,6 +55,7 @@ found f (suc n) e h = by (first f n) refl (λ p. found f n e p)
   where
     t : or-else (first f n) (f (suc n)) ≡ Some e
     t = h
+
     by : (o : Option Refusal) → first f n ≡ o → (first f n ≡ Some e → Found f n e) → Found f (suc n) e
     by None p rest = record { index = suc n; some = omega arith; within = omega arith; there = rw p at t; before = λ j q r. none-of f n p j q (omega arith) }
     by (Some x) p rest =
@@ -113,8 +114,9 @@ module _ (m : Meaning) where
 
   pub all-answer : first-refusal m ≡ None → EveryPlaceAnswers m
   all-answer h = record {
-      coefficients = λ i j (p, q) (r, s). tells-here (m .coefficient i j) (none-of (columns i) (m .size) (row-parts i (none-of (row-refusal m) (m .size) h i p q) .0) j r s);
-      right-sides = λ i (p, q). tells-here (m .right-side i) (row-parts i (none-of (row-refusal m) (m .size) h i p q) .1) }
+    coefficients = λ i j (p, q) (r, s). tells-here (m .coefficient i j) (none-of (columns i) (m .size) (row-parts i (none-of (row-refusal m) (m .size) h i p q) .0) j r s);
+    right-sides = λ i (p, q). tells-here (m .right-side i) (row-parts i (none-of (row-refusal m) (m .size) h i p q) .1);
+  }
 
   -- a place of a row without refusal answers
   row-answers : (i j : ℕ) → row-refusal m i ≡ None → 1 ≤ j → Told (place m i j)
@@ -142,18 +144,20 @@ module _ (m : Meaning) where
             is-place = ((p, q), (c .some, omega (arith, c .within)));
             refuses = ap refusal-at (coefficient-place i (c .index) (c .within)) ∙ c .there;
             earlier-answer = λ k j h b. ⊎-elim
-              (λ l. row-answers k j (earlier k (h .0 .0) l) (h .1 .0))
-              (λ l. subst Told (sym (coefficient-place k j (omega (arith, c .within)))) (tells-here (m .coefficient k j) (subst (λ r. columns r j ≡ None) (sym (l .0)) (c .before j (h .1 .0) (l .1)))))
-              b }
+                (λ l. row-answers k j (earlier k (h .0 .0) l) (h .1 .0))
+                (λ l. subst Told (sym (coefficient-place k j (omega (arith, c .within)))) (tells-here (m .coefficient k j) (subst (λ r. columns r j ≡ None) (sym (l .0)) (c .before j (h .1 .0) (l .1)))))
+                b;
+          }
       by None s t = record {
-          row = i;
-          column = m .size + 1;
-          is-place = ((p, q), (omega arith, omega arith));
-          refuses = ap refusal-at (side-place i) ∙ t;
-          earlier-answer = λ k j h b. ⊎-elim
+        row = i;
+        column = m .size + 1;
+        is-place = ((p, q), (omega arith, omega arith));
+        refuses = ap refusal-at (side-place i) ∙ t;
+        earlier-answer = λ k j h b. ⊎-elim
             (λ l. row-answers k j (earlier k (h .0 .0) l) (h .1 .0))
             (λ l. subst Told (sym (coefficient-place k j (omega arith))) (tells-here (m .coefficient k j) (subst (λ r. columns r j ≡ None) (sym (l .0)) (none-of (columns i) (m .size) s j (h .1 .0) (omega arith)))))
-            b }
+            b;
+      }
 
   pub searched : Searched m (unless-refused (first-refusal m) (Ok tt))
   searched = by (first-refusal m) refl

@@ -35,7 +35,8 @@ module _ {C : Type 0} (ends : C → Range) (ordered : (c : C) → Ordered (ends 
 
   pub table-lawful : (n : ℕ) (cells : List C) (count : ℕ) → Counted n count → Lawful (table n (map ends cells))
   table-lawful n cells count h = record {
-      some = h .0;
-      few = h .1;
-      coefficients = λ i j p q. limited-within (2 ^ 20) 1 i j _ (cells-ordered cells _);
-      right-sides = λ i p. limited-within (2 ^ 42) 1 i (n + 1) _ (cells-ordered cells _) }
+    some = h .0;
+    few = h .1;
+    coefficients = λ i j p q. limited-within (2 ^ 20) 1 i j _ (cells-ordered cells _);
+    right-sides = λ i p. limited-within (2 ^ 42) 1 i (n + 1) _ (cells-ordered cells _);
+  }

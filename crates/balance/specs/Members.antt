@@ -11,7 +11,6 @@ use Rattle.balance.specs.Meanings.{Place, told, refused, Meaning, IsNode}
 infix 50 _∈_ _≈_
 infixl 60 _⊕_
 infixl 70 _⊗_
-
 -- top / bottom
 pub record Fraction : Type 0 where
   pub top : ℤ

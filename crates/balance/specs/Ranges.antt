@@ -27,7 +27,6 @@ abbrev pub Inside : ℤ → Range → Type 0
 Inside p r = (r .lower ≤ℤ p) × (p ≤ℤ r .upper)
 
 infix 50 _⊆_
-
 -- every number of r is one of s
 pub record _⊆_ (r s : Range) : Type 0 where
   pub low : s .lower ≤ℤ r .lower

@@ -15,9 +15,10 @@ cell n cells i j = getD cells ((i - 1) * (n + 1) + (j - 1)) (only (pos 0))
 -- part 1: a cell beyond the limits is refused at its row and column
 abbrev pub table : ℕ → List Range → Meaning
 table n cells = record {
-    size = n;
-    coefficient = λ i j. limited (2 ^ 20) 1 i j (cell n cells i j);
-    right-side = λ i. limited (2 ^ 42) 1 i (n + 1) (cell n cells i (n + 1)) }
+  size = n;
+  coefficient = λ i j. limited (2 ^ 20) 1 i j (cell n cells i j);
+  right-side = λ i. limited (2 ^ 42) 1 i (n + 1) (cell n cells i (n + 1));
+}
 
 -- 1 to 32 nodes, and n × (n + 1) cells
 abbrev pub Counted : ℕ → ℕ → Type 0

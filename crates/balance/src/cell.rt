@@ -52,7 +52,10 @@ const CENTRED_LIMIT: i64 = 4_398_046_511_104;
 fn allowed(centre: i64, tolerance: i64) -> bool
     ensures { λ r. ⌜ r ≡ allowed centre tolerance ⌝ }
 {
-    -CENTRED_LIMIT <= centre && centre <= CENTRED_LIMIT && 0 <= tolerance && tolerance <= CENTRED_LIMIT
+    -CENTRED_LIMIT <= centre
+        && centre <= CENTRED_LIMIT
+        && 0 <= tolerance
+        && tolerance <= CENTRED_LIMIT
 }
 
 impl Centred {

@@ -2,6 +2,7 @@
 pub mod cell;
 mod interval;
 pub mod places;
+pub mod point;
 pub mod range;
 pub mod refusal;
 mod rows;

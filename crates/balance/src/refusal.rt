@@ -9,29 +9,55 @@ pub enum Refusal {
     // 1: the file is empty or too long, or its trailer is malformed, points wrongly or miscounts
     File,
     // 2: a data line has another shape, or the size line is missing
-    Shape { place: usize },
+    Shape {
+        place: usize,
+    },
     // 3: the size, the number of cells or the number of records is wrong
-    Size { place: usize },
+    Size {
+        place: usize,
+    },
     // 4: a node lies outside 1 to n
-    Node { place: usize },
+    Node {
+        place: usize,
+    },
     // 5: a data line is repeated or out of order
-    Order { place: usize },
+    Order {
+        place: usize,
+    },
     // 6: a lower end is above its upper end
-    Crossed { place: usize },
+    Crossed {
+        place: usize,
+    },
     // 7: a factor, or an entry of a permutation, is not allowed
-    Entry { place: usize },
+    Entry {
+        place: usize,
+    },
     // 8: a number goes beyond its limits
-    Limit { part: usize, row: usize, column: usize },
+    Limit {
+        part: usize,
+        row: usize,
+        column: usize,
+    },
     // 9: the certificate has another length, or one of its numbers is out of range
-    Certificate { place: usize },
+    Certificate {
+        place: usize,
+    },
     // 10: a row is not dominated by its diagonal under the certificate
-    Dominance { place: usize },
+    Dominance {
+        place: usize,
+    },
     // 11: an end of the first box is too large
-    Wide { place: usize },
+    Wide {
+        place: usize,
+    },
     // 12: a node's range and what a row or a reading leaves of it share nothing
-    Conflict { place: usize },
+    Conflict {
+        place: usize,
+    },
     // 13: a numerator, the denominator or the count of a point is not allowed
-    Point { place: usize },
+    Point {
+        place: usize,
+    },
     // 14: a buffer is too short
     Room,
 }
@@ -87,7 +113,10 @@ pub impl fmt::Display for Refusal as RefusalDisplay {
         let number = self.number();
         let first = self.first_value();
         match self {
-            Refusal::Limit { row, column, .. } => write!(f, "refused {number} {first} {row} {column}"),
+            Refusal::Limit { row, column, .. } => write!(
+                f,
+                "refused {number} {first} {row} {column}"
+            ),
             _ => write!(f, "refused {number} {first}"),
         }
     }

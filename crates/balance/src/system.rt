@@ -41,7 +41,13 @@ pub(crate) fn is_node(size: usize, node: usize) -> bool
 }
 
 // A range as an answer, or the refusal of its place where it goes beyond the limit.
-pub(crate) fn limited(range: Range, limit: i64, part: usize, row: usize, column: usize) -> Result<(i64, i64), Refusal>
+pub(crate) fn limited(
+    range: Range,
+    limit: i64,
+    part: usize,
+    row: usize,
+    column: usize,
+) -> Result<(i64, i64), Refusal>
     requires { ⌜ pos 0 ≤ℤ limit ⌝ }
     ensures { λ r. ⌜ r ≡ answer (limited (natAbs limit) part row column range) ⌝ }
 {

@@ -47,7 +47,8 @@ impl<C: Cell> Table<C> {
         requires { ⌜ 1 ≤ row ⌝ ∗ ⌜ row ≤ now self .size ⌝ ∗ ⌜ 1 ≤ column ⌝ ∗ ⌜ column ≤ now self .size + 1 ⌝ }
         ensures { λ r. ⌜ r ≡ cell (now (self .entry) .size) (map (C·Cell .ends) (vec-items (now (self .entry) .cells))) row column ⌝ }
     {
-        self.cells[(row - 1) * (self.size + 1) + (column - 1)].tell()
+        self.cells[(row - 1) * (self.size + 1) + (column - 1)]
+            .tell()
     }
 }
 
@@ -67,7 +68,13 @@ pub impl<C: Cell> System for Table<C> as TableSystem {
         if !is_node(self.size, column) {
             return Err(Refusal::Node { place: column });
         }
-        limited(self.told(row, column), COEFFICIENT_LIMIT, TABLE_PART, row, column)
+        limited(
+            self.told(row, column),
+            COEFFICIENT_LIMIT,
+            TABLE_PART,
+            row,
+            column,
+        )
     }
 
     fn right_side(&self, row: usize) -> Result<(i64, i64), Refusal> {
@@ -75,6 +82,12 @@ pub impl<C: Cell> System for Table<C> as TableSystem {
             return Err(Refusal::Node { place: row });
         }
         let column = self.size + 1;
-        limited(self.told(row, column), RIGHT_SIDE_LIMIT, TABLE_PART, row, column)
+        limited(
+            self.told(row, column),
+            RIGHT_SIDE_LIMIT,
+            TABLE_PART,
+            row,
+            column,
+        )
     }
 }

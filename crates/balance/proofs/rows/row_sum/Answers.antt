@@ -64,4 +64,5 @@ returns g c =
     let j : length (map f x) ≡ c .loop-j .j = omega (arith, length-map x f) in
     record {
       is = sym (row-sum-is m (map f x) (c .args .row) (c .args .without) (Some (c .loop-j .sum)) (omega (arith, length-map x f)) (ap (sum-of (terms m (map f x) (c .args .row) (c .args .without))) j ∙ c .loop-j .inv .0));
-      narrow = (omega (arith, ints), omega (arith, ints), omega (arith, ints)) }
+      narrow = (omega (arith, ints), omega (arith, ints), omega (arith, ints));
+    }

@@ -20,4 +20,5 @@ returns-then-small g c =
     let e = c .times .ensures .is in
     record {
       is = term-is (g .S·System .meaning (c .args .system .now)) (c .args .row) (c .args .without) (c .args .column) x a (c .times .result) (c .if-column-without .left) (c .in-Some .ensures tt .is) s e;
-      narrow = subst (Between (2 ^ 57)) (sym e) (times-between-bounds a x (2 ^ 20) (2 ^ 37) (c .in-Some .ensures tt .narrow) (small-between x s (c .pre))) }
+      narrow = subst (Between (2 ^ 57)) (sym e) (times-between-bounds a x (2 ^ 20) (2 ^ 37) (c .in-Some .ensures tt .narrow) (small-between x s (c .pre)));
+    }
