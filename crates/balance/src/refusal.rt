@@ -128,3 +128,12 @@ pub struct Returned<T> {
     pub refusal: Refusal,
     pub value: T,
 }
+
+// For a caller that needs nothing back.
+pub impl<T: Drop> From<Returned<T>> for Refusal as RefusalFromReturned {
+    ghost converts = { λ e r. r ≡ e .refusal };
+
+    fn from(e: Returned<T>) -> Refusal {
+        e.refusal
+    }
+}
