@@ -12,7 +12,7 @@ pub trait Cell {
     law ordered: { (c : Self) → Ordered (ends c) };
 
     fn tell(&self) -> Range
-        ensures { λ r. ⌜ r ≡ ends (now (self .entry)) ⌝ };
+        ensures tells_its_ends { λ r. ⌜ r ≡ ends (now (self .entry)) ⌝ };
 }
 
 // A number is a cell whose two ends are the number.
@@ -60,7 +60,7 @@ fn allowed(centre: i64, tolerance: i64) -> bool
 
 impl Centred {
     pub fn new(centre: i64, tolerance: i64) -> Result<Centred, Refusal>
-        ensures { λ r. ⌜ r ≡ centred-making centre tolerance ⌝ }
+        ensures made_exactly_within_limits { λ r. ⌜ r ≡ centred-making centre tolerance ⌝ }
     {
         if allowed(centre, tolerance) {
             Ok(Centred { centre, tolerance })

@@ -6,7 +6,7 @@ ghost use mir.Val.{SFits};
 ghost use Rattle.balance.specs.Ranges.{plus, minus, times, meets, Fits64, IntervalExtension};
 use super::range::Range;
 
-pub fn plus(a: Range, b: Range) -> Range
+pub(crate) fn plus(a: Range, b: Range) -> Range
     requires { ⌜ Fits64 (plus a b) ⌝ }
     ensures is { λ r. ⌜ r ≡ plus a b ⌝ }
     ensures extends_the_sum { λ _. ⌜ IntervalExtension _+ℤ_ plus ⌝ }
@@ -17,7 +17,7 @@ pub fn plus(a: Range, b: Range) -> Range
     }
 }
 
-pub fn minus(a: Range, b: Range) -> Range
+pub(crate) fn minus(a: Range, b: Range) -> Range
     requires { ⌜ Fits64 (minus a b) ⌝ }
     ensures is { λ r. ⌜ r ≡ minus a b ⌝ }
     ensures extends_the_difference { λ _. ⌜ IntervalExtension _-ℤ_ minus ⌝ }
@@ -36,7 +36,7 @@ fn product(p: i64, q: i64) -> i64
 }
 
 // The smallest and the largest of the four products of ends.
-pub fn times(a: Range, b: Range) -> Range
+pub(crate) fn times(a: Range, b: Range) -> Range
     requires { ⌜ Fits64 (times a b) ⌝ }
     ensures is { λ r. ⌜ r ≡ times a b ⌝ }
     ensures extends_the_product { λ _. ⌜ IntervalExtension _*ℤ_ times ⌝ }
@@ -52,7 +52,7 @@ pub fn times(a: Range, b: Range) -> Range
 }
 
 // Whether two ranges have a number in common.
-pub fn meets(a: Range, b: Range) -> bool
+pub(crate) fn meets(a: Range, b: Range) -> bool
     ensures { λ r. ⌜ r ≡ meets a b ⌝ }
 {
     a.lower <= b.upper && b.lower <= a.upper

@@ -13,7 +13,7 @@ impl Range {
     pub const ZERO: Range = Range { lower: 0, upper: 0 };
 
     pub fn new(lower: i64, upper: i64) -> Result<Range, Refusal>
-        ensures { λ r. ⌜ r ≡ range-making lower upper ⌝ }
+        ensures made_exactly_in_order { λ r. ⌜ r ≡ range-making lower upper ⌝ }
     {
         if lower <= upper {
             Ok(Range { lower, upper })

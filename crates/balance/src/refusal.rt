@@ -64,7 +64,7 @@ pub enum Refusal {
 
 impl Refusal {
     pub fn number(&self) -> u8
-        ensures { λ r. ⌜ r ≡ number (now (self .entry)) ⌝ }
+        ensures numbers_the_case { λ r. ⌜ r ≡ number (now (self .entry)) ⌝ }
     {
         match self {
             Refusal::File => 1,

@@ -17,13 +17,13 @@ pub trait System {
     law lawful: { (s : Self) → Lawful (meaning s) };
 
     fn size(&self) -> usize
-        ensures { λ r. ⌜ r ≡ meaning (now (self .entry)) .size ⌝ };
+        ensures is_the_size { λ r. ⌜ r ≡ meaning (now (self .entry)) .size ⌝ };
 
     fn coefficient(&self, row: usize, column: usize) -> Result<(i64, i64), Refusal>
-        ensures { λ r. ⌜ r ≡ coefficient-answer (meaning (now (self .entry))) row column ⌝ };
+        ensures answers_by_the_meaning { λ r. ⌜ r ≡ coefficient-answer (meaning (now (self .entry))) row column ⌝ };
 
     fn right_side(&self, row: usize) -> Result<(i64, i64), Refusal>
-        ensures { λ r. ⌜ r ≡ right-side-answer (meaning (now (self .entry))) row ⌝ };
+        ensures answers_by_the_meaning { λ r. ⌜ r ≡ right-side-answer (meaning (now (self .entry))) row ⌝ };
 }
 
 // No end of a coefficient lies beyond ±2^20.

@@ -20,14 +20,14 @@ loop-j-again g c =
     let m = g .S·System .meaning (c .args .system .now) in
     let i = c .loop-i .i + 1 in
     let j = c .loop-j .j in
-    first-more (λ j. refusal-at (m .coefficient i j)) j (c .loop-j .inv) (column-answers m i (omega arith) (j + 1) (c .in-rest .field-0) (omega arith) (c .in-rest .ensures tt))
+    first-more (λ j. refusal-at (m .coefficient i j)) j (c .loop-j .inv) (column-answers m i (omega arith) (j + 1) (c .in-rest .field-0) (omega arith) (c .in-rest .ensures tt .answers-by-the-meaning))
 
 pub loop-i-again : need.loop-i-again
 loop-i-again g c =
     let m = g .S·System .meaning (c .args .system .now) in
     let i = c .loop-i .i in
     let e = side-reached m i (c .loop-j .j) (c .loop-i .inv) (c .loop-j .inv) (omega arith) (omega arith) in
-    first-more (row-refusal m) i (c .loop-i .inv) (e ∙ side-answers m (i + 1) (omega arith) (c .in-rest-right-side .field-0) (c .in-rest-right-side .ensures tt))
+    first-more (row-refusal m) i (c .loop-i .inv) (e ∙ side-answers m (i + 1) (omega arith) (c .in-rest-right-side .field-0) (c .in-rest-right-side .ensures tt .answers-by-the-meaning))
 
 pub returns-in-Err : need.returns-in-Err
 returns-in-Err g c =
@@ -35,7 +35,7 @@ returns-in-Err g c =
     let i = c .loop-i .i in
     let j = c .loop-j .j in
     let x = c .in-Err .refusal in
-    let e = stops-at-column m i j (c .loop-i .inv) (c .loop-j .inv) (omega arith) x (column-refuses m (i + 1) (omega arith) (j + 1) x (omega arith) (c .in-Err .ensures tt)) (omega arith) in
+    let e = stops-at-column m i j (c .loop-i .inv) (c .loop-j .inv) (omega arith) x (column-refuses m (i + 1) (omega arith) (j + 1) x (omega arith) (c .in-Err .ensures tt .answers-by-the-meaning)) (omega arith) in
     let o = outcome m _ (Some x) e refl in
     record { answers = o .0; names-the-first-refused-place = o .1 }
 
@@ -45,7 +45,7 @@ returns-in-Err-right-side g c =
     let i = c .loop-i .i in
     let x = c .in-Err-right-side .refusal in
     let s = side-reached m i (c .loop-j .j) (c .loop-i .inv) (c .loop-j .inv) (omega arith) (omega arith) in
-    let e = first-stops (row-refusal m) x i (m .size) (c .loop-i .inv) (s ∙ side-refuses m (i + 1) (omega arith) x (c .in-Err-right-side .ensures tt)) (omega arith) in
+    let e = first-stops (row-refusal m) x i (m .size) (c .loop-i .inv) (s ∙ side-refuses m (i + 1) (omega arith) x (c .in-Err-right-side .ensures tt .answers-by-the-meaning)) (omega arith) in
     let o = outcome m _ (Some x) e refl in
     record { answers = o .0; names-the-first-refused-place = o .1 }
 

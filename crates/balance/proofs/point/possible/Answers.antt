@@ -19,7 +19,7 @@ returns g c =
     let q = c .args .denominator in
     let d = toZ-ofZ w64 q (c .fits .denominator) in
     let a = unrefused _ (c .in-Continue-every-place-answers .ensures tt .answers) in
-    let b = ap (λ z. point-refusal (m .size) ps z) (sym d) ∙ ap (λ n. point-refusal n ps (toZ w64 (ofZ w64 q))) (sym (c .size .ensures)) ∙ unrefused _ (c .in-Continue-check-point .ensures tt) in
+    let b = ap (λ z. point-refusal (m .size) ps z) (sym d) ∙ ap (λ n. point-refusal n ps (toZ w64 (ofZ w64 q))) (sym (c .size .ensures .is-the-size)) ∙ unrefused _ (c .in-Continue-check-point .ensures tt) in
     let r = c .every-row-fits .ensures ∙ ap (λ z. every (fits m (numerator ps) z) (m .size)) d in
     let e = ap (λ (t : Bool). Ok t) r in
     record {

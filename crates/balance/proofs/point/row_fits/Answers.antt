@@ -30,12 +30,12 @@ times-requires g c κs =
     let m = g .S·System .meaning (c .args .system .now) in
     let side = c .in-Some-right-side .side in
     let q = c .tell .result in
-    let n = denominator-narrow m (all-answer m (c .pre .0 .0)) (c .args .numerators .now) (c .args .denominator) (allowed _ _ _ (c .pre .0 .1)) (c .args .row) (c .pre .1) q (c .tell .ensures ∙ ap only (toZ-ofZ w64 _ (c .fits .denominator))) in
+    let n = denominator-narrow m (all-answer m (c .pre .0 .0)) (c .args .numerators .now) (c .args .denominator) (allowed _ _ _ (c .pre .0 .1)) (c .args .row) (c .pre .1) q (c .tell .ensures .tells-its-ends ∙ ap only (toZ-ofZ w64 _ (c .fits .denominator))) in
     narrow-fits (2 ^ 62) (times side q) (omega arith) (times-between-bounds side q (2 ^ 42) (2 ^ 20) (c .in-Some-right-side .ensures tt .narrow) n)
 
 pub returns : need.returns
 returns g c =
     let m = g .S·System .meaning (c .args .system .now) in
-    let d = c .tell .ensures ∙ ap only (toZ-ofZ w64 _ (c .fits .denominator)) in
+    let d = c .tell .ensures .tells-its-ends ∙ ap only (toZ-ofZ w64 _ (c .fits .denominator)) in
     let f = fits-is m (all-answer m (c .pre .0 .0)) (c .args .numerators .now) (c .args .denominator) (allowed _ _ _ (c .pre .0 .1)) (c .args .row) (c .pre .1) (c .in-Some .sum) (c .in-Some-right-side .side) (c .tell .result) (c .in-Some .ensures tt .is) (c .in-Some-right-side .ensures tt .is) d in
     c .meets .ensures ∙ ap (meets (c .in-Some .sum)) (c .times .ensures .is) ∙ f

@@ -12,6 +12,6 @@ use Rattle.balance.proofs.rows.right_side.Needs as need
 pub returns-in-Ok : need.returns-in-Ok
 returns-in-Ok g c =
     let s = c .args .system .now in
-    let b = right-side-narrow (g .S·System .meaning s) (g .S·System·met .lawful s) (c .args .row) (c .in-Ok .lower) (c .in-Ok .upper) (c .in-Ok .ensures tt) in
+    let b = right-side-narrow (g .S·System .meaning s) (g .S·System·met .lawful s) (c .args .row) (c .in-Ok .lower) (c .in-Ok .upper) (c .in-Ok .ensures tt .answers-by-the-meaning) in
     let e = held (2 ^ 42) (c .in-Ok .lower) (c .in-Ok .upper) (omega arith) b in
-    record { is = ap (λ (r : Range). Some r) e ∙ ap found (c .in-Ok .ensures tt); narrow = subst (Between (2 ^ 42)) (sym e) b }
+    record { is = ap (λ (r : Range). Some r) e ∙ ap found (c .in-Ok .ensures tt .answers-by-the-meaning); narrow = subst (Between (2 ^ 42)) (sym e) b }

@@ -29,7 +29,7 @@ returns-in-rest g c =
     let f = g .C·Cell .ends in
     let x = c .args .x .now in
     let j = c .loop-j .j in
-    let e : terms m (map f x) (c .args .row) (c .args .without) (j + 1) ≡ None = ap (term m (c .args .row) (c .args .without) (j + 1)) (at-cell f x j (c .index-x-j .result) (omega arith) (c .index-x-j .is) ∙ sym (c .tell .ensures)) ∙ sym (c .in-rest .ensures tt .is) in
+    let e : terms m (map f x) (c .args .row) (c .args .without) (j + 1) ≡ None = ap (term m (c .args .row) (c .args .without) (j + 1)) (at-cell f x j (c .index-x-j .result) (omega arith) (c .index-x-j .is) ∙ sym (c .tell .ensures .tells-its-ends)) ∙ sym (c .in-rest .ensures tt .is) in
     record { is = sym (row-sum-is m (map f x) (c .args .row) (c .args .without) None (omega (arith, length-map x f)) (sum-of-stops (terms m (map f x) (c .args .row) (c .args .without)) j (length (map f x)) e (omega (arith, length-map x f)))); narrow = tt }
 
 pub plus-sum-requires : need.plus-sum-requires
@@ -48,7 +48,7 @@ loop-j-again g c =
     let j = c .loop-j .j in
     let v = c .loop-j .inv .1 in
     let b = c .in-Some .ensures tt .narrow in
-    let e : terms m (map f x) (c .args .row) (c .args .without) (j + 1) ≡ Some (c .in-Some .more) = ap (term m (c .args .row) (c .args .without) (j + 1)) (at-cell f x j (c .index-x-j .result) (omega arith) (c .index-x-j .is) ∙ sym (c .tell .ensures)) ∙ sym (c .in-Some .ensures tt .is) in
+    let e : terms m (map f x) (c .args .row) (c .args .without) (j + 1) ≡ Some (c .in-Some .more) = ap (term m (c .args .row) (c .args .without) (j + 1)) (at-cell f x j (c .index-x-j .result) (omega arith) (c .index-x-j .is) ∙ sym (c .tell .ensures .tells-its-ends)) ∙ sym (c .in-Some .ensures tt .is) in
     let p = c .plus-sum .ensures .is in
     let lo = ap (λ (r : Range). r .lower) p in
     let up = ap (λ (r : Range). r .upper) p in
