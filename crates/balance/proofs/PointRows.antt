@@ -20,10 +20,10 @@ use Rattle.balance.specs.declared.range.Range.{Range}
 use Rattle.balance.specs.declared.refusal.Refusal.{Refusal}
 use Rattle.balance.specs.declared.refusal.Refusal.the-variants.{Point as PointRefusal}
 use Rattle.balance.specs.Ranges.{range, only, Ordered, Between, times, total, meets}
-use Rattle.balance.specs.Meanings.{Place, told, refused, Meaning, IsNode, Told, Lawful, EveryPlaceAnswers, answer, coefficient-answer, right-side-answer}
-use Rattle.balance.specs.Places.{first, unless-refused, first-refusal}
+use Rattle.balance.specs.Meanings.{Place, told, refused, Meaning, IsNode, Told, Lawful, EveryPlaceAnswers, answer, coefficient-answer, right-side-answer, range-at}
+use Rattle.balance.specs.Places.{first, unless-refused, first-refusal, every}
 use Rattle.balance.specs.Rows.{at, found, small, product, term, terms, sum-of, row-sum}
-use Rattle.balance.specs.Points.{numerator, between, numerator-refusal, point-refusal, range-at, row, fits, every, possible-answer, point, Possible, TellsPossible}
+use Rattle.balance.specs.Points.{numerator, between, numerator-refusal, point-refusal, row, fits, possible-answer, point, Possible, TellsPossible}
 use Rattle.balance.proofs.Searches.{none-of, coefficient-at, right-side-at}
 use Rattle.balance.proofs.RowSums.{row-sum-is}
 use Rattle.balance.proofs.Points.{fits-exactly}

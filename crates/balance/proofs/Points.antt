@@ -14,9 +14,10 @@ use Rattle.std.specs.Numbers.{maxZ}
 use Rattle.std.proofs.shelf.Signed.{clamps}
 use Rattle.balance.specs.declared.range.Range.{Range}
 use Rattle.balance.specs.Ranges.{only, Ordered, times, meets}
-use Rattle.balance.specs.Meanings.{Place, told, refused, Meaning, IsNode, Within, Told, Lawful, EveryPlaceAnswers}
+use Rattle.balance.specs.Meanings.{Place, told, refused, Meaning, IsNode, Within, Told, Lawful, EveryPlaceAnswers, range-at}
 use Rattle.balance.specs.Members.{Fraction, Member, Point, PickedAt, component, sum, Solves, _∈_, _≈_, _⊗_}
-use Rattle.balance.specs.Points.{range-at, row, fits, every, Possible}
+use Rattle.balance.specs.Places.{every}
+use Rattle.balance.specs.Points.{row, fits, Possible}
 use Rattle.balance.proofs.Integers.{times-assoc, le-times, le-parts, le-cancel}
 use Rattle.balance.proofs.FractionSums.{times-ordered, total-ordered, _·_, sum-in, term-in}
 use Rattle.balance.proofs.Picks.{low-weight, high-weight, some-weight, weighted, value, pick, pick-in, row-is}
@@ -49,7 +50,7 @@ module _ (q : ℕ) (f g : Fraction) (r s : Range) (h : q · f ∈ r) (e : f ≈ 
   both-meet : meets r (times s (only (pos q))) ≡ true
   both-meet = meet r (times s (only (pos q))) (omega (arith, ints, clamps, lower-below)) (omega (arith, ints, clamps, upper-above))
 
-picked-in : (p : Place) (f : Fraction) → PickedAt p f → f ∈ range-at p
+pub picked-in : (p : Place) (f : Fraction) → PickedAt p f → f ∈ range-at p
 picked-in (told r) f h = h
 picked-in (refused a b c) f h = absurd h
 

@@ -29,10 +29,10 @@ minus-extends = record {
 
 -- ---- products
 
-least : (a b c d : ℤ) → (minZ (minZ a b) (minZ c d) ≤ℤ a) × (minZ (minZ a b) (minZ c d) ≤ℤ b) × (minZ (minZ a b) (minZ c d) ≤ℤ c) × (minZ (minZ a b) (minZ c d) ≤ℤ d)
+pub least : (a b c d : ℤ) → (minZ (minZ a b) (minZ c d) ≤ℤ a) × (minZ (minZ a b) (minZ c d) ≤ℤ b) × (minZ (minZ a b) (minZ c d) ≤ℤ c) × (minZ (minZ a b) (minZ c d) ≤ℤ d)
 least a b c d = omega (arith, ints, clamps)
 
-most : (a b c d : ℤ) → (a ≤ℤ maxZ (maxZ a b) (maxZ c d)) × (b ≤ℤ maxZ (maxZ a b) (maxZ c d)) × (c ≤ℤ maxZ (maxZ a b) (maxZ c d)) × (d ≤ℤ maxZ (maxZ a b) (maxZ c d))
+pub most : (a b c d : ℤ) → (a ≤ℤ maxZ (maxZ a b) (maxZ c d)) × (b ≤ℤ maxZ (maxZ a b) (maxZ c d)) × (c ≤ℤ maxZ (maxZ a b) (maxZ c d)) × (d ≤ℤ maxZ (maxZ a b) (maxZ c d))
 most a b c d = omega (arith, ints, clamps)
 
 -- what holds of the four products of ends, and of a product that lies between two of which it holds, holds of every product

@@ -12,7 +12,7 @@ use Rattle.std.specs.declared.result.Result.the-variants.{Ok, Err}
 use Rattle.balance.specs.declared.range.Range.{Range}
 use Rattle.balance.specs.declared.refusal.Refusal.{Refusal}
 use Rattle.balance.specs.declared.refusal.Refusal.the-variants.{Node, Limit}
-use Rattle.balance.specs.Ranges.{Between}
+use Rattle.balance.specs.Ranges.{only, Between}
 
 -- two ends, or the fields of a refusal 8: part, row and column
 pub data Place : Type 0 where
@@ -51,6 +51,18 @@ Told (refused part row column) = ⊥
 pub record EveryPlaceAnswers (m : Meaning) : Type 0 where
   pub coefficients : (i j : ℕ) → IsNode m i → IsNode m j → Told (m .coefficient i j)
   pub right-sides : (i : ℕ) → IsNode m i → Told (m .right-side i)
+
+-- the ends at a place
+abbrev pub range-at : Place → Range
+range-at (told r) = r
+range-at (refused part row column) = only (pos 0)
+
+-- A_ij and b_i, where they answer
+abbrev pub coefficient-range : Meaning → ℕ → ℕ → Range
+coefficient-range m i j = range-at (m .coefficient i j)
+
+abbrev pub right-side-range : Meaning → ℕ → Range
+right-side-range m i = range-at (m .right-side i)
 
 -- ---- what a system answers
 

@@ -21,6 +21,11 @@ abbrev pub first : (ℕ → Option Refusal) → ℕ → Option Refusal
 first f zero = None
 first f (suc k) = or-else (first f k) (f (suc k))
 
+-- the test passes at 1 .. k
+abbrev pub every : (ℕ → Bool) → ℕ → Bool
+every test zero = true
+every test (suc k) = cond (every test k) (test (suc k)) false
+
 -- a refusal goes before an answer
 abbrev pub unless-refused : {X : Type 0} → Option Refusal → Result X Refusal → Result X Refusal
 unless-refused None r = r

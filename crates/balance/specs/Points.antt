@@ -1,5 +1,5 @@
 -- A point against the balance: whether a member system has it as its solution, told from the ends alone.
-use Prim.Native.Nat.{ℕ, zero, suc, _-_, _^_, _<_}
+use Prim.Native.Nat.{ℕ, _-_, _^_, _<_}
 use mathlib.Core.Path.{_≡_}
 use mathlib.Core.Logic.{_↔_}
 use mathlib.Core.List.{List}
@@ -16,8 +16,8 @@ use Rattle.balance.specs.declared.range.Range.{Range}
 use Rattle.balance.specs.declared.refusal.Refusal.{Refusal}
 use Rattle.balance.specs.declared.refusal.Refusal.the-variants.{Point as PointRefusal}
 use Rattle.balance.specs.Ranges.{only, times, total, meets}
-use Rattle.balance.specs.Meanings.{Place, told, refused, Meaning}
-use Rattle.balance.specs.Places.{first, unless-refused, first-refusal}
+use Rattle.balance.specs.Meanings.{Meaning, coefficient-range, right-side-range}
+use Rattle.balance.specs.Places.{first, every, unless-refused, first-refusal}
 use Rattle.balance.specs.Members.{Member, Point, Solves}
 
 -- numerator j of a list, from 1
@@ -38,23 +38,13 @@ point-refusal n ps q =
     (cond (between (pos 1) (pos (2 ^ 20)) q) (first (numerator-refusal ps) n) (Some (PointRefusal 0)))
     (Some (PointRefusal 0))
 
--- the ends at a place
-abbrev pub range-at : Place → Range
-range-at (told r) = r
-range-at (refused part row column) = only (pos 0)
-
 -- the sum of A_ij × p_j over all j
 abbrev pub row : Meaning → (ℕ → ℤ) → ℕ → Range
-row m p i = total (λ j. times (range-at (m .coefficient i j)) (only (p j))) (m .size)
+row m p i = total (λ j. times (coefficient-range m i j) (only (p j))) (m .size)
 
 -- row i fits: that sum and q × b_i have a number in common
 abbrev pub fits : Meaning → (ℕ → ℤ) → ℤ → ℕ → Bool
-fits m p q i = meets (row m p i) (times (range-at (m .right-side i)) (only q))
-
--- the test passes at 1 .. k
-abbrev pub every : (ℕ → Bool) → ℕ → Bool
-every test zero = true
-every test (suc k) = cond (every test k) (test (suc k)) false
+fits m p q i = meets (row m p i) (times (right-side-range m i) (only q))
 
 abbrev pub possible-answer : Meaning → List ℤ → ℤ → Result Bool Refusal
 possible-answer m ps q =

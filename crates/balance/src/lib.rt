@@ -5,6 +5,6 @@ pub mod places;
 pub mod point;
 pub mod range;
 pub mod refusal;
-mod rows;
+pub mod rows;
 pub mod system;
 pub mod table;

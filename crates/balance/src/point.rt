@@ -3,14 +3,14 @@ ghost use Prim.Native.Nat.{_^_, _≤_};
 ghost use lib.IntN.{pos, negℤ};
 ghost use Rattle.std.specs.declared.option.Option.the-variants.{None};
 ghost use Rattle.std.specs.declared.result.Result.the-variants.{Ok};
-ghost use Rattle.balance.specs.Places.{first-refusal, unless-refused};
-ghost use Rattle.balance.specs.Points.{between, numerator, point-refusal, fits, every, possible-answer, TellsPossible};
+ghost use Rattle.balance.specs.Places.{every, first-refusal, unless-refused};
+ghost use Rattle.balance.specs.Points.{between, numerator, point-refusal, fits, possible-answer, TellsPossible};
 use super::cell::Cell;
 use super::cell::NumberCell;
 use super::interval;
 use super::places::every_place_answers;
 use super::refusal::Refusal;
-use super::rows::right_side;
+use super::rows::right_side_range;
 use super::rows::row_sum;
 use super::system::System;
 
@@ -85,7 +85,7 @@ fn row_fits<S: System>(system: &S, numerators: &[i64], denominator: i64, row: us
     let Some(sum) = row_sum(system, numerators, row, 0) else {
         return false;
     };
-    let Some(side) = right_side(system, row) else {
+    let Some(side) = right_side_range(system, row) else {
         return false;
     };
     interval::meets(sum, interval::times(side, denominator.tell()))

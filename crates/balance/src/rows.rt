@@ -12,9 +12,9 @@ use super::range::Range;
 use super::system::System;
 
 // The range of a coefficient, where its place answers.
-pub(crate) fn coefficient<S: System>(system: &S, row: usize, column: usize) -> Option<Range>
-    ensures is { λ r. ⌜ r ≡ found (coefficient-answer (meaning (now (system .entry))) row column) ⌝ }
-    ensures narrow { λ r. ⌜ Cases r (Unit {0}) (Between (2 ^ 20)) ⌝ }
+pub fn coefficient_range<S: System>(system: &S, row: usize, column: usize) -> Option<Range>
+    ensures is_the_range_where_it_answers { λ r. ⌜ r ≡ found (coefficient-answer (meaning (now (system .entry))) row column) ⌝ }
+    ensures keeps_the_limit { λ r. ⌜ Cases r (Unit {0}) (Between (2 ^ 20)) ⌝ }
 {
     match system.coefficient(row, column) {
         Ok((lower, upper)) => Some(Range { lower, upper }),
@@ -23,9 +23,9 @@ pub(crate) fn coefficient<S: System>(system: &S, row: usize, column: usize) -> O
 }
 
 // The range of a right side, where its place answers.
-pub(crate) fn right_side<S: System>(system: &S, row: usize) -> Option<Range>
-    ensures is { λ r. ⌜ r ≡ found (right-side-answer (meaning (now (system .entry))) row) ⌝ }
-    ensures narrow { λ r. ⌜ Cases r (Unit {0}) (Between (2 ^ 42)) ⌝ }
+pub fn right_side_range<S: System>(system: &S, row: usize) -> Option<Range>
+    ensures is_the_range_where_it_answers { λ r. ⌜ r ≡ found (right-side-answer (meaning (now (system .entry))) row) ⌝ }
+    ensures keeps_the_limit { λ r. ⌜ Cases r (Unit {0}) (Between (2 ^ 42)) ⌝ }
 {
     match system.right_side(row) {
         Ok((lower, upper)) => Some(Range { lower, upper }),
@@ -51,7 +51,7 @@ fn term<S: System>(system: &S, row: usize, without: usize, column: usize, x: Ran
     if column == without {
         return Some(Range::ZERO);
     }
-    let Some(a) = coefficient(system, row, column) else {
+    let Some(a) = coefficient_range(system, row, column) else {
         return None;
     };
     if small(x) {
@@ -62,14 +62,14 @@ fn term<S: System>(system: &S, row: usize, without: usize, column: usize, x: Ran
 }
 
 // The sum of a row over the ranges of all nodes, without one column (0: with every column), where each coefficient in it answers and no range is too large.
-pub(crate) fn row_sum<S: System, C: Cell>(
+pub fn row_sum<S: System, C: Cell>(
     system: &S,
     x: &[C],
     row: usize,
     without: usize,
 ) -> Option<Range>
-    ensures is { λ r. ⌜ r ≡ row-sum (meaning (now (system .entry))) (map (C·Cell .ends) (now (x .entry))) row without ⌝ }
-    ensures narrow { λ r. ⌜ Cases r (Unit {0}) (Between (2 ^ 62)) ⌝ }
+    ensures is_the_sum_where_all_answer { λ r. ⌜ r ≡ row-sum (meaning (now (system .entry))) (map (C·Cell .ends) (now (x .entry))) row without ⌝ }
+    ensures keeps_the_limit { λ r. ⌜ Cases r (Unit {0}) (Between (2 ^ 62)) ⌝ }
 {
     if x.len() != system.size() {
         return None;

@@ -5,7 +5,8 @@ use mathlib.Core.Bool.{true, false}
 use mir.Syntax.{w64}
 use mir.Val.{toZ, ofZ}
 use Rattle.std.proofs.shelf.Signed.{toZ-ofZ}
-use Rattle.balance.specs.Points.{numerator, fits, every}
+use Rattle.balance.specs.Places.{every}
+use Rattle.balance.specs.Points.{numerator, fits}
 use Rattle.balance.proofs.Points.{every-more, every-stops}
 use Rattle.balance.proofs.point.every_row_fits.Needs as need
 

@@ -18,7 +18,7 @@ pub returns-then-x-size : need.returns-then-x-size
 returns-then-x-size g c =
     let m = g .S·System .meaning (c .args .system .now) in
     let x = c .args .x .now in
-    record { is = sym (row-sum-none m (map (g .C·Cell .ends) x) (c .args .row) (c .args .without) (λ e. c .if-x-size .taken (omega (arith, length-map x (g .C·Cell .ends))))); narrow = tt }
+    record { is-the-sum-where-all-answer = sym (row-sum-none m (map (g .C·Cell .ends) x) (c .args .row) (c .args .without) (λ e. c .if-x-size .taken (omega (arith, length-map x (g .C·Cell .ends))))); keeps-the-limit = tt }
 
 pub loop-j-holds : need.loop-j-holds
 loop-j-holds g c = (refl, (omega (arith, ints), omega (arith, ints), omega (arith, ints)))
@@ -30,7 +30,7 @@ returns-in-rest g c =
     let x = c .args .x .now in
     let j = c .loop-j .j in
     let e : terms m (map f x) (c .args .row) (c .args .without) (j + 1) ≡ None = ap (term m (c .args .row) (c .args .without) (j + 1)) (at-cell f x j (c .index-x-j .result) (omega arith) (c .index-x-j .is) ∙ sym (c .tell .ensures .tells-its-ends)) ∙ sym (c .in-rest .ensures tt .is) in
-    record { is = sym (row-sum-is m (map f x) (c .args .row) (c .args .without) None (omega (arith, length-map x f)) (sum-of-stops (terms m (map f x) (c .args .row) (c .args .without)) j (length (map f x)) e (omega (arith, length-map x f)))); narrow = tt }
+    record { is-the-sum-where-all-answer = sym (row-sum-is m (map f x) (c .args .row) (c .args .without) None (omega (arith, length-map x f)) (sum-of-stops (terms m (map f x) (c .args .row) (c .args .without)) j (length (map f x)) e (omega (arith, length-map x f)))); keeps-the-limit = tt }
 
 pub plus-sum-requires : need.plus-sum-requires
 plus-sum-requires g c κs =
@@ -63,6 +63,6 @@ returns g c =
     let few = g .S·System·met .lawful (c .args .system .now) .few in
     let j : length (map f x) ≡ c .loop-j .j = omega (arith, length-map x f) in
     record {
-      is = sym (row-sum-is m (map f x) (c .args .row) (c .args .without) (Some (c .loop-j .sum)) (omega (arith, length-map x f)) (ap (sum-of (terms m (map f x) (c .args .row) (c .args .without))) j ∙ c .loop-j .inv .0));
-      narrow = (omega (arith, ints), omega (arith, ints), omega (arith, ints));
+      is-the-sum-where-all-answer = sym (row-sum-is m (map f x) (c .args .row) (c .args .without) (Some (c .loop-j .sum)) (omega (arith, length-map x f)) (ap (sum-of (terms m (map f x) (c .args .row) (c .args .without))) j ∙ c .loop-j .inv .0));
+      keeps-the-limit = (omega (arith, ints), omega (arith, ints), omega (arith, ints));
     }

@@ -10,7 +10,7 @@ pub times-requires : need.times-requires
 times-requires g c κs =
     let a = c .in-Some .a in
     let x = c .args .x in
-    narrow-fits (2 ^ 57) (times a x) (omega arith) (times-between-bounds a x (2 ^ 20) (2 ^ 37) (c .in-Some .ensures tt .narrow) (small-between x (sym (c .if-small .ensures tt)) (c .pre)))
+    narrow-fits (2 ^ 57) (times a x) (omega arith) (times-between-bounds a x (2 ^ 20) (2 ^ 37) (c .in-Some .ensures tt .keeps-the-limit) (small-between x (sym (c .if-small .ensures tt)) (c .pre)))
 
 pub returns-then-small : need.returns-then-small
 returns-then-small g c =
@@ -19,6 +19,6 @@ returns-then-small g c =
     let s = sym (c .if-small .ensures tt) in
     let e = c .times .ensures .is in
     record {
-      is = term-is (g .S·System .meaning (c .args .system .now)) (c .args .row) (c .args .without) (c .args .column) x a (c .times .result) (c .if-column-without .left) (c .in-Some .ensures tt .is) s e;
-      narrow = subst (Between (2 ^ 57)) (sym e) (times-between-bounds a x (2 ^ 20) (2 ^ 37) (c .in-Some .ensures tt .narrow) (small-between x s (c .pre)));
+      is = term-is (g .S·System .meaning (c .args .system .now)) (c .args .row) (c .args .without) (c .args .column) x a (c .times .result) (c .if-column-without .left) (c .in-Some .ensures tt .is-the-range-where-it-answers) s e;
+      narrow = subst (Between (2 ^ 57)) (sym e) (times-between-bounds a x (2 ^ 20) (2 ^ 37) (c .in-Some .ensures tt .keeps-the-limit) (small-between x s (c .pre)));
     }
