@@ -72,7 +72,7 @@ denominator-above (negsuc n) h = absurd (grind (arith, ints))
 
 -- ---- the sums of its rows
 
-answer-found : (p : Place) → Told p → found (answer p) ≡ Some (range-at p)
+pub answer-found : (p : Place) → Told p → found (answer p) ≡ Some (range-at p)
 answer-found (told r) t = refl
 answer-found (refused a b c) t = absurd t
 

@@ -69,7 +69,7 @@ in-picked : (p : Place) (f : Fraction) → Told p → f ∈ range-at p → Picke
 in-picked (told r) f t h = h
 in-picked (refused a b c) f t h = t
 
-place-ordered : (limit : ℕ) (p : Place) → Within limit p → Ordered (range-at p)
+pub place-ordered : (limit : ℕ) (p : Place) → Within limit p → Ordered (range-at p)
 place-ordered limit (told r) h = h .1
 place-ordered limit (refused a b c) h = omega (arith, ints)
 
@@ -121,7 +121,7 @@ fits-solution m lawful answers x fit = (s, λ i h. row-is (α i) (β i) (some i)
 
 -- ---- a test at every node
 
-every-passes : (t : ℕ → Bool) (n : ℕ) → every t n ≡ true → (i : ℕ) → 1 ≤ i → i ≤ n → t i ≡ true
+pub every-passes : (t : ℕ → Bool) (n : ℕ) → every t n ≡ true → (i : ℕ) → 1 ≤ i → i ≤ n → t i ≡ true
 every-passes t zero h i p q = absurd (omega arith)
 every-passes t (suc n) h i p q = by (every t n) refl (ℕ-discrete i (suc n)) h (λ e r. every-passes t n e i p r)
   where

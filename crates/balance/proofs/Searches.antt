@@ -33,12 +33,12 @@ first-stops f e k (suc n) h p l = go (ℕ-discrete k n) (λ q. first-stops f e k
     go (no q) rest = rw (rest (omega arith))
 
 -- the first k of f that refuses
-record Found (f : ℕ → Option Refusal) (n : ℕ) (e : Refusal) : Type 0 where
-  index : ℕ
-  some : 1 ≤ index
-  within : index ≤ n
-  there : f index ≡ Some e
-  before : (j : ℕ) → 1 ≤ j → j < index → f j ≡ None
+pub record Found (f : ℕ → Option Refusal) (n : ℕ) (e : Refusal) : Type 0 where
+  pub index : ℕ
+  pub some : 1 ≤ index
+  pub within : index ≤ n
+  pub there : f index ≡ Some e
+  pub before : (j : ℕ) → 1 ≤ j → j < index → f j ≡ None
 
 pub none-of : (f : ℕ → Option Refusal) (n : ℕ) → first f n ≡ None → (j : ℕ) → 1 ≤ j → j ≤ n → f j ≡ None
 none-of f zero h j p q = absurd (omega arith)
@@ -49,7 +49,7 @@ none-of f (suc n) h j p q = by (first f n) refl (ℕ-discrete j (suc n)) (λ e r
     by None e (no r) rest = rest e (omega arith)
     by (Some x) e d rest = let t : or-else (first f n) (f (suc n)) ≡ None = h in let z : _≡_ {A = ℕ} 0 1 = cc (ap (λ o. or-else o (f (suc n))) e) in absurd (omega arith)
 
-found : (f : ℕ → Option Refusal) (n : ℕ) (e : Refusal) → first f n ≡ Some e → Found f n e
+pub found : (f : ℕ → Option Refusal) (n : ℕ) (e : Refusal) → first f n ≡ Some e → Found f n e
 found f zero e h = let z : _≡_ {A = ℕ} 0 1 = cc in absurd (omega arith)
 found f (suc n) e h = by (first f n) refl (λ p. found f n e p)
   where

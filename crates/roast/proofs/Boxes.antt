@@ -17,6 +17,7 @@ use Rattle.balance.specs.Ranges.{range, only, Ordered, _⊆_, minus, times, tot
 use Rattle.balance.specs.Meanings.{Place, told, refused, Meaning, IsNode, Same, Within, Lawful, range-at, coefficient-range, right-side-range}
 use Rattle.balance.specs.Places.{every}
 use Rattle.balance.specs.Rows.{at}
+use Rattle.balance.proofs.Points.{place-ordered}
 use Rattle.balance.proofs.Ranges.{plus-extends, minus-extends, times-extends}
 use Rattle.roast.specs.Rounding.{holds-zero, quotient, shared}
 use Rattle.roast.specs.Narrowing.{Box, is-told, row-answers, term, numerator, narrowed}
@@ -93,10 +94,6 @@ pub set-above : (X B : Box) (k : ℕ) (r : Range) → X ⊑ B → getD X k nothi
 set-above X B k r h s = record { long = h .long ∙ sym (length-set B k r); each = each-set (λ j x. getD X j nothing ⊆ x) B k r (h .each) s }
 
 -- ---- places of a lawful meaning
-
-place-ordered : (limit : ℕ) (p : Place) → Within limit p → Ordered (range-at p)
-place-ordered limit (told r) h = h .1
-place-ordered limit (refused a b c) h = omega (arith, ints)
 
 module _ (m : Meaning) (lawful : Lawful m) where
   pub coefficient-ordered : (i j : ℕ) → IsNode m i → IsNode m j → Ordered (coefficient-range m i j)

@@ -2,3 +2,10 @@ pub mod Numbers
 pub mod Quotients
 pub mod Fractions
 pub mod Boxes
+pub mod Moves
+pub mod Order
+pub mod Sound
+pub mod Sums
+pub mod Sizes
+pub mod FirstBox
+pub mod Depends
