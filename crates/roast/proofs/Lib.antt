@@ -9,3 +9,4 @@ pub mod Sums
 pub mod Sizes
 pub mod FirstBox
 pub mod Depends
+pub mod Narrow

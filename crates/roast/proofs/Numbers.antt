@@ -1,13 +1,14 @@
 -- Laws of the whole numbers: signs, products in order, and rounded quotients.
-use Prim.Native.Nat.{ℕ, zero, suc, _+_, _*_, _≤_, _<_}
+use Prim.Native.Nat.{ℕ, zero, suc, _+_, _*_, _≤_, _<_, suc-le-suc}
 use native.Mathlib.Omega.{arith}
-use native.Mathlib.Nat.{mul-le-mul-right, le-div-iff-mul-le, div-lt-iff-lt-mul, le-of-mul-le-mul-right}
+use native.Mathlib.Nat.{mul-le-mul-right, le-div-iff-mul-le, div-lt-iff-lt-mul, le-of-mul-le-mul-right, div-le-self}
 use mathlib.Core.Path.{_≡_, ap, _∙_, subst₂}
 use mathlib.Core.Logic.{_⊎_, inl, inr, _↔_}
-use lib.IntN.{ℤ, pos, negsuc, negℤ, _+ℤ_, _-ℤ_, _*ℤ_, *ℤ-comm}
+use lib.IntN.{ℤ, pos, negsuc, negℤ, natAbs, _+ℤ_, _-ℤ_, _*ℤ_, *ℤ-comm}
 use lib.Signed.{_≤ℤ_, _<ℤ_}
 use borrow.Author.Differences.{up, down, ints}
 use Rattle.balance.proofs.Integers.{sum-times}
+use Rattle.std.specs.Numbers.{divEuclid}
 use Rattle.roast.specs.Rounding.{floor, ceiling}
 
 pub ≤-trans : (a b c : ℤ) → a ≤ℤ b → b ≤ℤ c → a ≤ℤ c
@@ -60,3 +61,9 @@ pub ceiling-is : (z m d : ℤ) → pos 0 <ℤ d → (ceiling m d ≤ℤ z) ↔ (
 ceiling-is z m d s =
     let f = floor-is (negℤ z) (negℤ m) d s in
     (λ h. let k = f .0 (omega (arith, ints)) in let k′ = simp neg-times at k in omega (arith, ints), λ h. let k = f .1 (simp neg-times (omega (arith, ints))) in omega (arith, ints))
+
+-- a quotient is no larger than what is divided
+pub quotient-within : (m d : ℤ) → pos 0 <ℤ d → natAbs (divEuclid m d) ≤ natAbs m
+quotient-within (pos m) (pos d) h = div-le-self m d
+quotient-within (negsuc m) (pos d) h = suc-le-suc (div-le-self m d)
+quotient-within m (negsuc d) h = absurd (h .lt)

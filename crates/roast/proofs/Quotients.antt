@@ -12,7 +12,7 @@ use Rattle.std.specs.Numbers.{minZ, maxZ}
 use Rattle.std.specs.declared.option.Option.{Option}
 use Rattle.std.specs.declared.option.Option.the-variants.{Some, None}
 use Rattle.std.proofs.shelf.Signed.{clamps}
-use Rattle.std.proofs.shelf.Tests.{true≢false, cond-true}
+use Rattle.std.proofs.shelf.Tests.{true≢false}
 use Rattle.balance.specs.declared.range.Range.{Range}
 use Rattle.balance.specs.Ranges.{range, Ordered, Inside, _⊆_}
 use Rattle.balance.proofs.Integers.{between-low, between-high}
@@ -118,14 +118,20 @@ sign-of d e o = by (leZ (d .lower) (pos 0)) (leZ (pos 0) (d .upper)) refl refl e
     by true false p q h = inr (omega (arith, ints))
     by false t p q h = inl (omega (arith, ints))
 
+pub above-test : (z : ℤ) → pos 0 <ℤ z → ltZ (pos 0) z ≡ true
+above-test z h = grind (arith, ints)
+
+pub below-test : (z : ℤ) → z ≤ℤ pos 0 → ltZ (pos 0) z ≡ false
+below-test z h = grind (arith, ints)
+
+pub not-zero : (d : Range) → d .lower ≤ℤ pos 0 → holds-zero d ≡ false → d .upper <ℤ pos 0
+not-zero d h e = grind (arith, ints)
+
 pub quotient-rounds : (m d : Range) → holds-zero d ≡ false → Ordered m → Ordered d → RoundedOutward m d (quotient m d)
 quotient-rounds m d e o o′ = ⊎-elim
-    (λ s. let t : true ≡ ltZ (pos 0) (d .lower) = omega (arith, ints) in subst (RoundedOutward m d) (sym (cond-true (ltZ (pos 0) (d .lower)) (quotient-above m d) _ (sym t))) (above-rounds m d s o o′))
-    (λ s. let t : ltZ (pos 0) (d .lower) ≡ false = not-below s in rw t (negated-rounds m d _ (above-rounds (negated m) (negated d) (omega (arith, ints)) (omega (arith, ints)) (omega (arith, ints)))))
+    (λ s. let t = above-test (d .lower) s in rw t (above-rounds m d s o o′))
+    (λ s. let t = below-test (d .lower) (omega (arith, ints)) in rw t (negated-rounds m d _ (above-rounds (negated m) (negated d) (omega (arith, ints)) (omega (arith, ints)) (omega (arith, ints)))))
     (sign-of d e o′)
-  where
-    not-below : d .upper <ℤ pos 0 → ltZ (pos 0) (d .lower) ≡ false
-    not-below s = grind (arith, ints)
 
 -- ---- what follows for ranges within ranges
 
@@ -152,6 +158,9 @@ shared-common a b = by (leZ (maxZ (a .lower) (b .lower)) (minZ (a .upper) (b .up
     by : (t : Bool) → leZ (maxZ (a .lower) (b .lower)) (minZ (a .upper) (b .upper)) ≡ t → CommonPart a b (cond t (Some (range (maxZ (a .lower) (b .lower)) (minZ (a .upper) (b .upper)))) None)
     by true e = common-made a b (record { le = subst T (sym e) tt })
     by false e = λ p i j. let i₀ = i .0 in let i₁ = i .1 in let j₀ = j .0 in let j₁ = j .1 in let l : leZ (maxZ (a .lower) (b .lower)) (minZ (a .upper) (b .upper)) ≡ true = ordered-yes (maxZ (a .lower) (b .lower)) (minZ (a .upper) (b .upper)) (omega (arith, ints, clamps)) in true≢false (sym l ∙ e)
+
+pub common-part : (a b : Range) (o : Option Range) → o ≡ shared a b → CommonPart a b o
+common-part a b o e = subst (CommonPart a b) (sym e) (shared-common a b)
 
 -- what is shared lies in both, and holds all that lies in both
 pub record Shared (a b r : Range) : Type 0 where
