@@ -10,3 +10,6 @@ pub mod Sizes
 pub mod FirstBox
 pub mod Depends
 pub mod Narrow
+pub mod RowSteps
+pub mod Steps
+pub mod Records

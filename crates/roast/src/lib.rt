@@ -1,4 +1,5 @@
 // The box of temperatures that are still possible for a drum: opened by a certificate, narrowed by row steps and readings.
 mod bounds;
 pub mod call;
+mod narrowing;
 mod rounding;
