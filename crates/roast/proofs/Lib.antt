@@ -13,3 +13,4 @@ pub mod Narrow
 pub mod RowSteps
 pub mod Steps
 pub mod Records
+pub mod Certified

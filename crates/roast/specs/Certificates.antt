@@ -72,6 +72,10 @@ pub record LeastBound (m : Meaning) (us : List ℤ) (i bound : ℕ) : Type 0 whe
   pub bounds : (j : ℕ) → IsNode m j → u us i * magnitude (right-side-range m j) ≤ bound * natAbs (v m us j)
   pub least : (z : ℕ) → ((j : ℕ) → IsNode m j → u us i * magnitude (right-side-range m j) ≤ z * natAbs (v m us j)) → bound ≤ z
 
+-- a list that holds f 1 .. f n at its front
+abbrev pub Holding : (ℕ → ℕ) → ℕ → List ℕ → Type 0
+Holding f n xs = (j : ℕ) → 1 ≤ j → j ≤ n → getD xs (j - 1) 0 ≡ f j
+
 -- f 1 .. f n
 abbrev pub listed : (ℕ → Range) → ℕ → List Range
 listed f zero = []
