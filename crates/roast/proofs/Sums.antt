@@ -38,6 +38,9 @@ sum-same f g i (suc n) h = ap₂ (λ s x. s + cond (eqb (suc n) i) 0 x) (sum-sam
 
 -- ---- the largest
 
+pub largest-more : (f : ℕ → ℕ) (j : ℕ) → largest f (j + 1) ≡ max (largest f j) (f (j + 1))
+largest-more f j = let e : j + 1 ≡ suc j = omega arith in rw e
+
 pub largest-above : (f : ℕ → ℕ) (n j : ℕ) → In n j → f j ≤ largest f n
 largest-above f zero j h = omega arith
 largest-above f (suc n) j h = by-last (λ i. f i ≤ largest f (suc n)) n j h (λ k. omega (arith, largest-above f n j k)) (omega arith)

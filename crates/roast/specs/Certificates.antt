@@ -76,6 +76,18 @@ pub record LeastBound (m : Meaning) (us : List ℤ) (i bound : ℕ) : Type 0 whe
 abbrev pub Holding : (ℕ → ℕ) → ℕ → List ℕ → Type 0
 Holding f n xs = (j : ℕ) → 1 ≤ j → j ≤ n → getD xs (j - 1) 0 ≡ f j
 
+-- the v_j, all at least 1 and at most 2^40, and the |b_j|
+abbrev pub Margins : Meaning → List ℤ → List ℕ → Type 0
+Margins m us xs = Holding (λ j. natAbs (v m us j)) (m .size) xs × ((j : ℕ) → 1 ≤ j → j ≤ m .size → (1 ≤ natAbs (v m us j)) × (natAbs (v m us j) ≤ 2 ^ 40))
+
+abbrev pub Sides : Meaning → List ℕ → Type 0
+Sides m xs = Holding (λ j. magnitude (right-side-range m j)) (m .size) xs
+
+-- the refusal in a result
+abbrev pub refusal-of : {X : Type 0} → Result X Refusal → Option Refusal
+refusal-of (Ok x) = None
+refusal-of (Err e) = Some e
+
 -- f 1 .. f n
 abbrev pub listed : (ℕ → Range) → ℕ → List Range
 listed f zero = []

@@ -12,8 +12,11 @@ ghost use Rattle.balance.specs.Ranges.{Between, range};
 ghost use Rattle.balance.specs.Meanings.{coefficient-range, right-side-range};
 ghost use Rattle.balance.specs.Places.{first, unless-refused};
 ghost use Rattle.balance.specs.Points.{between};
-ghost use Rattle.roast.specs.Certificates.{magnitude, mignitude, others, v, largest, rounded-up, k, certificate-refusal, dominance-refusal, Holding};
+ghost use Rattle.roast.specs.Certificates.{magnitude, mignitude, others, v, largest, rounded-up, k, certificate-refusal, dominance-refusal, Margins, Sides, refusal-of, first-box, wide-refusal, opening};
+ghost use Rattle.roast.specs.Boxed.{box, boxed};
+use super::bounds::Bounds;
 use super::rounding;
+use balance::places::every_place_answers;
 use balance::range::Range;
 use balance::refusal::Refusal;
 use balance::rows::coefficient_range;
@@ -22,6 +25,9 @@ use balance::system::System;
 
 // A number of a certificate lies in 1 to 2^20.
 const NUMBER_LIMIT: i64 = 1_048_576;
+
+// No end of the first box lies beyond ±2^30.
+const END_LIMIT: u64 = 1_073_741_824;
 
 fn number_allowed(number: i64) -> bool
     ensures { λ r. ⌜ r ≡ between (pos 1) (pos (2 ^ 20)) number ⌝ }
@@ -130,4 +136,92 @@ fn own_weight(a: Range, number: i64) -> u64
     ensures small { λ r. ⌜ r ≤ 2 ^ 40 ⌝ }
 {
     mignitude(a) * number.unsigned_abs()
+}
+
+// The margins of all rows, or the first row that has none.
+fn margins<S: System>(system: &S, certificate: &[i64]) -> Result<[u64; 32], Refusal>
+    requires { ⌜ certificate-refusal (meaning (now system) .size) (now certificate) ≡ None ⌝ }
+    ensures margins { λ r. ⌜ Cases r (λ xs. Margins (meaning (now (system .entry))) (now (certificate .entry)) xs) (λ _. Unit {0}) ⌝ }
+    ensures first { λ r. ⌜ first (dominance-refusal (meaning (now (system .entry))) (now (certificate .entry))) (meaning (now (system .entry)) .size) ≡ refusal-of r ⌝ }
+{
+    let mut margins = [0; 32];
+    for i in 0..certificate.len() {
+        let v = margin(system, certificate, i + 1);
+        if v < 1 {
+            return Err(Refusal::Dominance { place: i + 1 });
+        }
+        margins[i] = v as u64;
+    }
+    Ok(margins)
+}
+
+// The magnitudes of all right sides.
+fn sides<S: System>(system: &S) -> [u64; 32]
+    ensures { λ r. ⌜ Sides (meaning (now (system .entry))) r ⌝ }
+{
+    let mut sides = [0; 32];
+    for i in 0..system.size() {
+        sides[i] = magnitude(right_side(system, i + 1));
+    }
+    sides
+}
+
+fn rounded_up(a: u64, d: u64) -> u64
+    requires { ⌜ a ≤ 2 ^ 62 ⌝ ∗ ⌜ 1 ≤ d ⌝ ∗ ⌜ d ≤ 2 ^ 40 ⌝ }
+    ensures { λ r. ⌜ r ≡ rounded-up a d ⌝ }
+{
+    (a + (d - 1)) / d
+}
+
+// The largest of number × side / margin over all rows, each rounded up.
+fn first_end(number: u64, sides: &[u64], margins: &[u64], size: usize) -> u64
+    requires { ⌜ number ≤ 2 ^ 20 ⌝ ∗ ⌜ size ≤ length (now sides) ⌝ ∗ ⌜ size ≤ length (now margins) ⌝ }
+    requires { ⌜ ((j : ℕ) → j < size → (getD (now sides) j 0 ≤ 2 ^ 42) × ((1 ≤ getD (now margins) j 0) × (getD (now margins) j 0 ≤ 2 ^ 40))) ⌝ }
+    ensures { λ r. ⌜ r ≡ largest (λ j. rounded-up (number * getD (now (sides .entry)) (j - 1) 0) (getD (now (margins .entry)) (j - 1) 0)) size ⌝ }
+{
+    let mut end: u64 = 0;
+    for j in 0..size {
+        end = end.max(rounded_up(number * sides[j], margins[j]));
+    }
+    end
+}
+
+// ±k.
+fn first_range(end: u64) -> Range
+    requires { ⌜ end ≤ 2 ^ 30 ⌝ }
+    ensures is { λ r. ⌜ r ≡ range (negℤ (pos end)) (pos end) ⌝ }
+    ensures narrow { λ r. ⌜ Between (2 ^ 30) r ⌝ }
+{
+    Range {
+        lower: -(end as i64),
+        upper: end as i64,
+    }
+}
+
+// The first box: ±k of each node, or the first node whose k is too large.
+fn fill<S: System>(system: &S, certificate: &[i64], sides: &[u64; 32], margins: &[u64; 32]) -> Result<Bounds, Refusal>
+    requires { ⌜ certificate-refusal (meaning (now system) .size) (now certificate) ≡ None ⌝ }
+    requires { ⌜ Sides (meaning (now system)) (now sides) ⌝ ∗ ⌜ Margins (meaning (now system)) (now certificate) (now margins) ⌝ }
+    ensures boxed { λ r. ⌜ Cases r (λ b. box b ≡ first-box (meaning (now (system .entry))) (now (certificate .entry))) (λ _. Unit {0}) ⌝ }
+    ensures first { λ r. ⌜ first (wide-refusal (meaning (now (system .entry))) (now (certificate .entry))) (meaning (now (system .entry)) .size) ≡ refusal-of r ⌝ }
+{
+    let mut bounds = Bounds::none();
+    for i in 0..certificate.len() {
+        let end = first_end(certificate[i].unsigned_abs(), sides, margins, certificate.len());
+        if END_LIMIT < end {
+            return Err(Refusal::Wide { place: i + 1 });
+        }
+        bounds.push(first_range(end));
+    }
+    Ok(bounds)
+}
+
+// The bounds that an opening with this certificate gives.
+pub fn first_bounds<S: System>(system: &S, certificate: &[i64]) -> Result<Bounds, Refusal>
+    ensures { λ r. ⌜ boxed r ≡ opening (meaning (now (system .entry))) (now (certificate .entry)) ⌝ }
+{
+    every_place_answers(system)?;
+    check_certificate(system.size(), certificate)?;
+    let margins = margins(system, certificate)?;
+    fill(system, certificate, &sides(system), &margins)
 }
