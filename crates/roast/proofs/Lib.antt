@@ -14,3 +14,4 @@ pub mod RowSteps
 pub mod Steps
 pub mod Records
 pub mod Certified
+pub mod Openings

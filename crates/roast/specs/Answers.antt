@@ -30,3 +30,12 @@ step-result (conflict i) = Err (Conflict i)
 abbrev pub step-box : Box → Step → Box
 step-box before (took changed box) = box
 step-box before (conflict i) = before
+
+-- an opening's result, and the box that it leaves
+abbrev pub opened : Result Box Refusal → Result (Unit {0}) Refusal
+opened (Ok box) = Ok tt
+opened (Err e) = Err e
+
+abbrev pub opened-box : Box → Result Box Refusal → Box
+opened-box before (Ok box) = box
+opened-box before (Err e) = before

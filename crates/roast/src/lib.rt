@@ -3,4 +3,5 @@ mod bounds;
 pub mod call;
 mod certificate;
 mod narrowing;
+mod roast;
 mod rounding;
