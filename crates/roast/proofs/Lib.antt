@@ -15,3 +15,4 @@ pub mod Steps
 pub mod Records
 pub mod Certified
 pub mod Openings
+pub mod Playing

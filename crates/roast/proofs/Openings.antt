@@ -22,6 +22,8 @@ use Rattle.balance.specs.Places.{or-else, first, unless-refused, refusal-at, ro
 use Rattle.balance.specs.Points.{between}
 use Rattle.balance.proofs.Searches.{none-of, all-answer}
 use Rattle.roast.specs.Certificates.{number, v, k, Passes, first-box, number-refusal, certificate-refusal, dominance-refusal, wide-refusal, opening, Opens, OpensExactly}
+use Rattle.roast.specs.Narrowing.{Box}
+use Rattle.roast.specs.Answers.{opened, opened-box}
 use Rattle.roast.proofs.Certified.{certified}
 
 -- ---- from no refusal
@@ -88,3 +90,8 @@ opens-exactly m us = by (first-refusal m) (certificate-refusal (m .size) us) (fi
     by None None (Some e) wo a b d w = not-opened e (rw (a, b, d))
     by None (Some e) dd wo a b d w = not-opened e (rw (a, b))
     by (Some e) bo dd wo a b d w = not-opened e (rw a)
+
+-- a refused opening leaves the box
+pub refused-stays : (x : Box) (o : Result Box Refusal) (e : Refusal) → Err e ≡ opened o → opened-box x o ≡ x
+refused-stays x (Ok b) e h = let z : _≡_ {A = ℕ} 0 1 = cc in absurd (omega arith)
+refused-stays x (Err r) e h = refl

@@ -3,5 +3,6 @@ mod bounds;
 pub mod call;
 mod certificate;
 mod narrowing;
-mod roast;
+pub mod replay;
+pub mod roast;
 mod rounding;
