@@ -62,12 +62,7 @@ fn term<S: System>(system: &S, row: usize, without: usize, column: usize, x: Ran
 }
 
 // The sum of a row over the ranges of all nodes, without one column (0: with every column), where each coefficient in it answers and no range is too large.
-pub fn row_sum<S: System, C: Cell>(
-    system: &S,
-    x: &[C],
-    row: usize,
-    without: usize,
-) -> Option<Range>
+pub fn row_sum<S: System, C: Cell>(system: &S, x: &[C], row: usize, without: usize) -> Option<Range>
     ensures is_the_sum_where_all_answer { λ r. ⌜ r ≡ row-sum (meaning (now (system .entry))) (map (C·Cell .ends) (now (x .entry))) row without ⌝ }
     ensures keeps_the_limit { λ r. ⌜ Cases r (Unit {0}) (Between (2 ^ 62)) ⌝ }
 {

@@ -2,6 +2,7 @@
 ghost use Rattle.fitting.specs.Worked.{WorkedDrums};
 
 mod drums;
+mod replays;
 mod tests;
 
 use balance::cell::Cell;
@@ -37,7 +38,8 @@ fn run(rt: &LibcRuntime) -> Result<(), AnyError>
     println!(rt, "slips of the keys")?;
     slip_on_tables(rt)?;
     slip_on_cells(rt)?;
-    slip_on_points(rt)
+    slip_on_points(rt)?;
+    replays::run(rt)
 }
 
 fn table<C: Cell + Drop>(size: usize, cells: Vec<C>) -> Result<Table<C>, Refusal> {

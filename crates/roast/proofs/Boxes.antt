@@ -57,7 +57,6 @@ total-in f g (suc k) o h = plus-extends .keeps-inclusion (total f k) (f (suc k))
 -- ---- boxes
 
 infix 50 _⊑_
-
 -- B lies in C, node by node
 pub record _⊑_ (B C : Box) : Type 0 where
   pub long : length B ≡ length C
@@ -111,16 +110,18 @@ module _ (m : Meaning) (lawful : Lawful m) where
 
 pub same-back : (m m′ : Meaning) → Same m m′ → Same m′ m
 same-back m m′ h = record {
-    sizes = sym (h .sizes);
-    coefficients = λ i j p q. sym (h .coefficients i j (omega (arith, h .sizes)) (omega (arith, h .sizes)));
-    right-sides = λ i p. sym (h .right-sides i (omega (arith, h .sizes))) }
+  sizes = sym (h .sizes);
+  coefficients = λ i j p q. sym (h .coefficients i j (omega (arith, h .sizes)) (omega (arith, h .sizes)));
+  right-sides = λ i p. sym (h .right-sides i (omega (arith, h .sizes)));
+}
 
 pub same-lawful : (m m′ : Meaning) → Same m m′ → Lawful m → Lawful m′
 same-lawful m m′ h l = record {
-    some = omega (arith, h .sizes, l .some);
-    few = omega (arith, h .sizes, l .few);
-    coefficients = λ i j p q. let p′ : IsNode m i = omega (arith, h .sizes) in let q′ : IsNode m j = omega (arith, h .sizes) in subst (Within (2 ^ 20)) (h .coefficients i j p′ q′) (l .coefficients i j p′ q′);
-    right-sides = λ i p. let p′ : IsNode m i = omega (arith, h .sizes) in subst (Within (2 ^ 42)) (h .right-sides i p′) (l .right-sides i p′) }
+  some = omega (arith, h .sizes, l .some);
+  few = omega (arith, h .sizes, l .few);
+  coefficients = λ i j p q. let p′ : IsNode m i = omega (arith, h .sizes) in let q′ : IsNode m j = omega (arith, h .sizes) in subst (Within (2 ^ 20)) (h .coefficients i j p′ q′) (l .coefficients i j p′ q′);
+  right-sides = λ i p. let p′ : IsNode m i = omega (arith, h .sizes) in subst (Within (2 ^ 42)) (h .right-sides i p′) (l .right-sides i p′);
+}
 
 -- ---- the row step
 
@@ -158,27 +159,38 @@ module _ (m m′ : Meaning) (same : Same m m′) (lawful : Lawful m) where
   row-mono B C i r tidy h node e =
       let o = opened m B i r e in
       let k = shared-is (at B i) (quotient (numerator m B i) (coefficient-range m i i)) r (o .kept) in
-      let s = shared-has (at C i) (quotient (numerator m′ C i) (coefficient-range m′ i i)) r (k .ordered) (⊆-trans (k .left) (h .each (i - 1))) (⊆-trans (k .right) (quotients (o .apart))) in
-      (s .0, opens m′ C i (s .0) (record {
-        answers = sym (answers-same m m′ same B C i (h .long) node) ∙ o .answers;
-        apart = ap holds-zero (sym diagonal) ∙ o .apart;
-        kept = s .1 }), s .2)
+      let s = shared-has (at C i) (quotient (numerator m′ C i) (coefficient-range m′ i i)) r (k .ordered) (⊆-trans (k .left) (h .each (i - 1))) (⊆-trans (k .right) (quotients (o .apart))) in (
+        s .0,
+        opens m′ C i (s .0) (record {
+          answers = sym (answers-same m m′ same B C i (h .long) node) ∙ o .answers;
+          apart = ap holds-zero (sym diagonal) ∙ o .apart;
+          kept = s .1;
+        }),
+        s .2,
+      )
     where
       lawful′ : Lawful m′
       lawful′ = same-lawful m m′ same lawful
+
       node′ : IsNode m′ i
       node′ = omega (arith, same .sizes)
+
       diagonal : coefficient-range m i i ≡ coefficient-range m′ i i
       diagonal = ap range-at (same .coefficients i i node node)
+
       term-ordered : (j : ℕ) (t : Bool) → Ordered (cond t nothing (times (coefficient-range m i j) (at B j)))
       term-ordered j true = omega (arith, ints)
       term-ordered j false = times-ordered (coefficient-range m i j) (at B j)
+
       term-in : (j : ℕ) → IsNode m j → (t : Bool) → cond t nothing (times (coefficient-range m i j) (at B j)) ⊆ cond t nothing (times (coefficient-range m′ i j) (at C j))
       term-in j q true = ⊆-refl nothing
       term-in j q false = times-extends .keeps-inclusion (coefficient-range m i j) (at B j) (coefficient-range m′ i j) (at C j) (coefficient-ordered m lawful i j node q) (tidy (j - 1)) (⊆-same _ _ (ap range-at (same .coefficients i j node q))) (h .each (j - 1))
+
       sums : total (term m B i) (m .size) ⊆ total (term m′ C i) (m′ .size)
       sums = subst (λ n. total (term m B i) (m .size) ⊆ total (term m′ C i) n) (same .sizes) (total-in _ _ (m .size) (λ j. term-ordered j (eqb j i)) (λ j p q. term-in j (p, q) (eqb j i)))
+
       numerators : numerator m B i ⊆ numerator m′ C i
       numerators = minus-extends .keeps-inclusion (right-side-range m i) (total (term m B i) (m .size)) (right-side-range m′ i) (total (term m′ C i) (m′ .size)) (place-ordered (2 ^ 42) (m .right-side i) (lawful .right-sides i node)) (total-ordered (term m B i) (m .size) (λ j. term-ordered j (eqb j i))) (⊆-same _ _ (ap range-at (same .right-sides i node))) sums
+
       quotients : holds-zero (coefficient-range m i i) ≡ false → quotient (numerator m B i) (coefficient-range m i i) ⊆ quotient (numerator m′ C i) (coefficient-range m′ i i)
       quotients a = subst (λ d. quotient (numerator m B i) (coefficient-range m i i) ⊆ quotient (numerator m′ C i) d) diagonal (quotient-mono (numerator m B i) (numerator m′ C i) (coefficient-range m i i) a (numerator-ordered m lawful B i node) (numerator-ordered m′ lawful′ C i node′) (coefficient-ordered m lawful i i node node) numerators)

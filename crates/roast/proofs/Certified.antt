@@ -59,6 +59,7 @@ certified n us h = by (eqb (length us) n) refl h
     passes : (b : Bool) (i : ℕ) → cond b None (Some (Certificate i)) ≡ None → b ≡ true
     passes true i k = refl
     passes false i k = let z : _≡_ {A = ℕ} 0 1 = cc in absurd (omega arith)
+
     by : (s : Bool) → eqb (length us) n ≡ s → cond s (first (number-refusal us) n) (Some (Certificate 0)) ≡ None → Certified n us
     by true e k = record { count = eqb-true (length us) n e; numbers = λ i a b. between-is (number us i) (passes (allowed (number us i)) i (none-of (number-refusal us) n k i a b)) }
     by false e k = let z : _≡_ {A = ℕ} 0 1 = cc in absurd (omega arith)

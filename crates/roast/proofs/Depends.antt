@@ -22,7 +22,8 @@ module _ (us : List ℤ) (m : Meaning) (lawful : Lawful m) (m′ : Meaning) (sam
 
 pub dependable : (m : Meaning) (us : List ℤ) → Lawful m → Passes m us → Dependable m us
 dependable m us lawful passes = record {
-    holds-every-solution = λ cs s x solves a. run-holds m lawful s x solves (first-box m us) (first-length m us) (first-box-holds m us lawful passes s x solves) cs a;
-    one-solution = one-solution m us lawful passes;
-    same-rest = same-rest us m lawful;
-    no-conflict = λ m′ same cs ds sets. (calm us m lawful m′ same cs ds sets, calm us m′ (same-lawful m m′ same lawful) m (same-back m m′ same) ds cs (sets .1, sets .0)) }
+  holds-every-solution = λ cs s x solves a. run-holds m lawful s x solves (first-box m us) (first-length m us) (first-box-holds m us lawful passes s x solves) cs a;
+  one-solution = one-solution m us lawful passes;
+  same-rest = same-rest us m lawful;
+  no-conflict = λ m′ same cs ds sets. (calm us m lawful m′ same cs ds sets, calm us m′ (same-lawful m m′ same lawful) m (same-back m m′ same) ds cs (sets .1, sets .0));
+}

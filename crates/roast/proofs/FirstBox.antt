@@ -28,11 +28,12 @@ margin m us i h = omega (arith, ints)
 
 pub k-least : (m : Meaning) (us : List ℤ) (i : ℕ) → ((j : ℕ) → IsNode m j → pos 1 ≤ℤ v m us j) → LeastBound m us i (k m us i)
 k-least m us i dominant = record {
-    bounds = λ j h.
+  bounds = λ j h.
       let p = margin m us j (dominant j h) in
       let a = u us i * magnitude (right-side-range m j) in
       omega (arith, rounded-up-enough a (natAbs (v m us j)) p, mul-le-mul-left (natAbs (v m us j)) (largest-above (λ j. rounded-up (u us i * magnitude (right-side-range m j)) (natAbs (v m us j))) (m .size) j h));
-    least = λ z h. largest-below _ (m .size) z (λ j n. rounded-up-least (u us i * magnitude (right-side-range m j)) (natAbs (v m us j)) z (margin m us j (dominant j n)) (h j n)) }
+  least = λ z h. largest-below _ (m .size) z (λ j n. rounded-up-least (u us i * magnitude (right-side-range m j)) (natAbs (v m us j)) z (margin m us j (dominant j n)) (h j n));
+}
 
 -- ---- solutions
 
@@ -112,6 +113,7 @@ module _ (m : Meaning) (us : List ℤ) (lawful : Lawful m) (passes : Passes m us
       where
         factor : ℕ → ℕ
         factor j = x .over * y .over * Z j * s .coefficient i j .bottom
+
         size-term : (j : ℕ) → x .over * y .over * size (term s x i j ⊖ term s y i j) ≡ x .over * y .over * (Z j * (size (s .coefficient i j) * s .coefficient i j .bottom))
         size-term j = ap (λ n. x .over * y .over * n) (size-⊗ (s .coefficient i j) (component x j) (component y j))
 

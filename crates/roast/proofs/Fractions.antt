@@ -59,9 +59,10 @@ in-wider f {r} {s} h k =
     (≤-trans _ _ _ l (k .0), ≤-trans _ _ _ (k .1) u)
 
 pub in-like : (f g : Fraction) (r : Range) → f ≈ g → g ∈ r → f ∈ r
-in-like f g r e h =
-    (lower-low (r .lower) (f .top) (f .bottom) (g .bottom) (g .positive) (let k = raise-low (r .lower) (g .top) (g .bottom) (f .bottom) (h .0) in omega (arith, ints)),
-    lower-high (r .upper) (f .top) (f .bottom) (g .bottom) (g .positive) (let k = raise-high (r .upper) (g .top) (g .bottom) (f .bottom) (h .1) in omega (arith, ints)))
+in-like f g r e h = (
+  lower-low (r .lower) (f .top) (f .bottom) (g .bottom) (g .positive) (let k = raise-low (r .lower) (g .top) (g .bottom) (f .bottom) (h .0) in omega (arith, ints)),
+  lower-high (r .upper) (f .top) (f .bottom) (g .bottom) (g .positive) (let k = raise-high (r .upper) (g .top) (g .bottom) (f .bottom) (h .1) in omega (arith, ints)),
+)
 
 in-plus : (f g : Fraction) (a x : Range) → f ∈ a → g ∈ x → (f ⊕ g) ∈ plus a x
 in-plus f g a x h k =
@@ -77,9 +78,10 @@ in-left f g r x h k =
     let l = raise-low (x .lower) (g .top) (g .bottom) (f .bottom) (k .0) in
     let u = raise-high (x .upper) (g .top) (g .bottom) (f .bottom) (k .1) in
     let h₀ = h .0 in
-    let h₁ = h .1 in
-    (lower-low (r .lower -ℤ x .upper) (f .top) (f .bottom) (g .bottom) (g .positive) (rw (sub-times (r .lower) (x .upper) (f .bottom * g .bottom)) (omega (arith, ints))),
-    lower-high (r .upper -ℤ x .lower) (f .top) (f .bottom) (g .bottom) (g .positive) (rw (sub-times (r .upper) (x .lower) (f .bottom * g .bottom)) (omega (arith, ints))))
+    let h₁ = h .1 in (
+      lower-low (r .lower -ℤ x .upper) (f .top) (f .bottom) (g .bottom) (g .positive) (rw (sub-times (r .lower) (x .upper) (f .bottom * g .bottom)) (omega (arith, ints))),
+      lower-high (r .upper -ℤ x .lower) (f .top) (f .bottom) (g .bottom) (g .positive) (rw (sub-times (r .upper) (x .lower) (f .bottom * g .bottom)) (omega (arith, ints))),
+    )
 
 pub in-right : (f g : Fraction) (r x : Range) → (f ⊕ g) ∈ r → f ∈ x → g ∈ minus r x
 in-right f g r x h k = let h₀ = h .0 in let h₁ = h .1 in in-left g f r x (omega (arith, ints), omega (arith, ints)) k
@@ -96,12 +98,14 @@ in-times f g a x h k =
     let d = g .bottom in
     let ends : Range → ℕ → Range = λ r c. range (r .lower *ℤ pos c) (r .upper *ℤ pos c) in
     let l = least (a .lower *ℤ x .lower) (a .lower *ℤ x .upper) (a .upper *ℤ x .lower) (a .upper *ℤ x .upper) in
-    let u = most (a .lower *ℤ x .lower) (a .lower *ℤ x .upper) (a .upper *ℤ x .lower) (a .upper *ℤ x .upper) in
-    (every-product (λ t. (times a x .lower *ℤ pos (n * d)) ≤ℤ t) (between-low _) (ends a n) (ends x d) (low (a .lower) (x .lower) (l .0)) (low (a .lower) (x .upper) (l .1)) (low (a .upper) (x .lower) (l .2)) (low (a .upper) (x .upper) (l .3)) (f .top) (g .top) h k,
-    every-product (λ t. t ≤ℤ (times a x .upper *ℤ pos (n * d))) (between-high _) (ends a n) (ends x d) (high (a .lower) (x .lower) (u .0)) (high (a .lower) (x .upper) (u .1)) (high (a .upper) (x .lower) (u .2)) (high (a .upper) (x .upper) (u .3)) (f .top) (g .top) h k)
+    let u = most (a .lower *ℤ x .lower) (a .lower *ℤ x .upper) (a .upper *ℤ x .lower) (a .upper *ℤ x .upper) in (
+      every-product (λ t. (times a x .lower *ℤ pos (n * d)) ≤ℤ t) (between-low _) (ends a n) (ends x d) (low (a .lower) (x .lower) (l .0)) (low (a .lower) (x .upper) (l .1)) (low (a .upper) (x .lower) (l .2)) (low (a .upper) (x .upper) (l .3)) (f .top) (g .top) h k,
+      every-product (λ t. t ≤ℤ (times a x .upper *ℤ pos (n * d))) (between-high _) (ends a n) (ends x d) (high (a .lower) (x .lower) (u .0)) (high (a .lower) (x .upper) (u .1)) (high (a .upper) (x .lower) (u .2)) (high (a .upper) (x .upper) (u .3)) (f .top) (g .top) h k,
+    )
   where
     low : (p q : ℤ) → (times a x .lower) ≤ℤ (p *ℤ q) → (times a x .lower *ℤ pos (f .bottom * g .bottom)) ≤ℤ ((p *ℤ pos (f .bottom)) *ℤ (q *ℤ pos (g .bottom)))
     low p q e = rw (scaled p q (f .bottom) (g .bottom)) (grows _ _ (pos (f .bottom * g .bottom)) (omega (arith, ints)) e)
+
     high : (p q : ℤ) → (p *ℤ q) ≤ℤ (times a x .upper) → ((p *ℤ pos (f .bottom)) *ℤ (q *ℤ pos (g .bottom))) ≤ℤ (times a x .upper *ℤ pos (f .bottom * g .bottom))
     high p q e = rw (scaled p q (f .bottom) (g .bottom)) (grows _ _ (pos (f .bottom * g .bottom)) (omega (arith, ints)) e)
 
@@ -126,8 +130,10 @@ in-quotient-above c x m d q s o o′ r h g =
   where
     positive : pos 0 <ℤ c .top
     positive = let h₀ = h .0 in omega (arith, ints, c .positive, grows (pos 1) (d .lower) (pos (c .bottom)) (omega (arith, ints)) (omega (arith, ints)))
+
     below : (z : ℤ) → (q .lower *ℤ z) ≤ℤ m .lower → ((z *ℤ pos (c .bottom)) *ℤ q .lower) ≤ℤ (m .lower *ℤ pos (c .bottom))
     below z t = rw (turn z (pos (c .bottom)) (q .lower)) (grows (q .lower *ℤ z) (m .lower) (pos (c .bottom)) (omega (arith, ints)) t)
+
     over : (z : ℤ) → m .upper ≤ℤ (q .upper *ℤ z) → (m .upper *ℤ pos (c .bottom)) ≤ℤ ((z *ℤ pos (c .bottom)) *ℤ q .upper)
     over z t = rw (turn z (pos (c .bottom)) (q .upper)) (grows (m .upper) (q .upper *ℤ z) (pos (c .bottom)) (omega (arith, ints)) t)
 
@@ -153,24 +159,31 @@ in-shared f a b h k = by (shared a b) refl
   where
     crossing : (r s : Range) → f ∈ r → f ∈ s → r .lower ≤ℤ s .upper
     crossing r s p q = cancels (r .lower) (s .upper) (pos (f .bottom)) (omega (arith, ints, f .positive)) (≤-trans _ _ _ (p .0) (q .1))
+
     low : ℤ
     low = maxZ (a .lower) (b .lower)
+
     high : ℤ
     high = minZ (a .upper) (b .upper)
+
     low-in : Inside low a × Inside low b
     low-in = let aa = crossing a a h h in let ab = crossing a b h k in let ba = crossing b a k h in let bb = crossing b b k k in ((omega (arith, ints, clamps), omega (arith, ints, clamps)), (omega (arith, ints, clamps), omega (arith, ints, clamps)))
+
     high-in : Inside high a × Inside high b
     high-in = let aa = crossing a a h h in let ab = crossing a b h k in let ba = crossing b a k h in let bb = crossing b b k k in ((omega (arith, ints, clamps), omega (arith, ints, clamps)), (omega (arith, ints, clamps), omega (arith, ints, clamps)))
+
     low-below : (low *ℤ pos (f .bottom)) ≤ℤ f .top
     low-below = between-max (a .lower) (b .lower) (h .0) (k .0)
       where
         between-max : (x y : ℤ) → (x *ℤ pos (f .bottom)) ≤ℤ f .top → (y *ℤ pos (f .bottom)) ≤ℤ f .top → (maxZ x y *ℤ pos (f .bottom)) ≤ℤ f .top
         between-max x y p q = grind (arith, ints)
+
     high-above : f .top ≤ℤ (high *ℤ pos (f .bottom))
     high-above = between-min (a .upper) (b .upper) (h .1) (k .1)
       where
         between-min : (x y : ℤ) → f .top ≤ℤ (x *ℤ pos (f .bottom)) → f .top ≤ℤ (y *ℤ pos (f .bottom)) → f .top ≤ℤ (minZ x y *ℤ pos (f .bottom))
         between-min x y p q = grind (arith, ints)
+
     by : (o : Option Range) → shared a b ≡ o → (r : Range) × (shared a b ≡ Some r) × (f ∈ r)
     by (Some r) e =
         let c : CommonPart a b (Some r) = subst (CommonPart a b) e (shared-common a b) in

@@ -35,12 +35,14 @@ kept false x h = let z : _≡_ {A = ℕ} 0 1 = cc in absurd (omega arith)
 module _ (m : Meaning) (us : List ℤ) where
   opens : first-refusal m ≡ None → certificate-refusal (m .size) us ≡ None → first (dominance-refusal m us) (m .size) ≡ None → first (wide-refusal m us) (m .size) ≡ None → Opens m us
   opens a b d w = record {
-      answers = all-answer m a;
-      passes = record {
-        count = certified (m .size) us b .count;
-        numbers = λ i p. certified (m .size) us b .numbers i (p .0) (p .1);
-        dominant = λ i p. at-least (v m us i) (kept (leZ (pos 1) (v m us i)) (Dominance i) (none-of (dominance-refusal m us) (m .size) d i (p .0) (p .1))) };
-      narrow = λ i p. leb-true (k m us i) (2 ^ 30) (kept (leb (k m us i) (2 ^ 30)) (Wide i) (none-of (wide-refusal m us) (m .size) w i (p .0) (p .1))) }
+    answers = all-answer m a;
+    passes = record {
+      count = certified (m .size) us b .count;
+      numbers = λ i p. certified (m .size) us b .numbers i (p .0) (p .1);
+      dominant = λ i p. at-least (v m us i) (kept (leZ (pos 1) (v m us i)) (Dominance i) (none-of (dominance-refusal m us) (m .size) d i (p .0) (p .1)));
+    };
+    narrow = λ i p. leb-true (k m us i) (2 ^ 30) (kept (leb (k m us i) (2 ^ 30)) (Wide i) (none-of (wide-refusal m us) (m .size) w i (p .0) (p .1)));
+  }
     where
       at-least : (z : ℤ) → leZ (pos 1) z ≡ true → pos 1 ≤ℤ z
       at-least z h = omega (arith, ints)
@@ -84,6 +86,7 @@ opens-exactly m us = by (first-refusal m) (certificate-refusal (m .size) us) (fi
   where
     not-opened : (e : Refusal) → opening m us ≡ Err e → Opens m us → ⊥
     not-opened e h o = let s = opens-so m us o in let z : _≡_ {A = ℕ} 0 1 = cc in omega arith
+
     by : (a b d w : Option Refusal) → first-refusal m ≡ a → certificate-refusal (m .size) us ≡ b → first (dominance-refusal m us) (m .size) ≡ d → first (wide-refusal m us) (m .size) ≡ w → OpensExactly m us (unless-refused a (unless-refused b (unless-refused d (unless-refused w (Ok (first-box m us))))))
     by None None None None a b d w = (opens m us a b d w, refl)
     by None None None (Some e) a b d w = not-opened e (rw (a, b, d, w))

@@ -46,6 +46,7 @@ step-kept m X i e = by (narrowed m X i) refl e
     twice : (t : Bool) → not (not t) ≡ true → t ≡ true
     twice true e = refl
     twice false e = e
+
     by : (o : Option Range) → narrowed m X i ≡ o → rests (take X i o) ≡ true → Kept m X i
     by (Some r) f e = (r, f, same-inside (at X i) r (twice _ e))
     by None f e = let z : _≡_ {A = ℕ} 0 1 = cc in absurd (omega arith)
@@ -100,9 +101,10 @@ module _ (m m′ : Meaning) (same : Same m m′) (lawful : Lawful m) (X : Box) (
 
   run-calm : (B : Box) → X ⊑ B → (cs : List Ask) → Meets X (accepted m′ B cs) → NoConflict m′ B cs
   run-calm B h [] a = tt
-  run-calm B h (c ∷ cs) a =
-      (call-calm B h c,
-      run-calm (outcome m′ B c .box) (move-keeps h (λ b x. a b (among-left _ x)) (call-moves m′ B c)) cs (λ b x. a b (among-right (accepted-one m′ B c) x)))
+  run-calm B h (c ∷ cs) a = (
+    call-calm B h c,
+    run-calm (outcome m′ B c .box) (move-keeps h (λ b x. a b (among-left _ x)) (call-moves m′ B c)) cs (λ b x. a b (among-right (accepted-one m′ B c) x)),
+  )
 
   run-keeps : (B : Box) → X ⊑ B → (cs : List Ask) → Meets X (accepted m′ B cs) → X ⊑ after m′ B cs
   run-keeps B h cs a = move-keeps h a (run-moves m′ B cs)

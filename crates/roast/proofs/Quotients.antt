@@ -32,20 +32,24 @@ above-all z l u n c d h a k p q = ≤-trans _ _ _ (h .1) (subst (λ t. u ≤ℤ 
 pick-low : (M z l u : ℤ) (b : Bool) → (b ≡ true → pos 0 ≤ℤ M) → (b ≡ false → M ≤ℤ pos 0) → pos 0 <ℤ l → l ≤ℤ u → (z ≤ℤ floor M (cond b u l)) ↔ (((z *ℤ l) ≤ℤ M) × ((z *ℤ u) ≤ℤ M))
 pick-low M z l u true t f s o =
     let g = floor-is z M u (omega (arith, ints)) in
-    let m = t refl in
-    (λ h. let k = g .0 h in
-    (⊎-elim
-      (λ p. ≤-trans (z *ℤ l) (z *ℤ u) M (grows-left l u z p o) k)
-      (λ p. ≤-trans (z *ℤ l) (pos 0) M (subst (λ t. (z *ℤ l) ≤ℤ t) (zero-*ℤ l) (grows z (pos 0) l (omega (arith, ints)) p)) m)
-      (either-sign z), k),
-    λ h. g .1 (h .1))
+    let m = t refl in (
+      λ h. let k = g .0 h in (
+        ⊎-elim
+            (λ p. ≤-trans (z *ℤ l) (z *ℤ u) M (grows-left l u z p o) k)
+            (λ p. ≤-trans (z *ℤ l) (pos 0) M (subst (λ t. (z *ℤ l) ≤ℤ t) (zero-*ℤ l) (grows z (pos 0) l (omega (arith, ints)) p)) m)
+            (either-sign z),
+        k,
+      ),
+      λ h. g .1 (h .1),
+    )
 pick-low M z l u false t f s o =
     let g = floor-is z M l s in
-    let m = f refl in
-    (λ h. let k = g .0 h in
-    let below = cancels z (pos 0) l s (subst (λ t. (z *ℤ l) ≤ℤ t) (sym (zero-*ℤ l)) (≤-trans (z *ℤ l) M (pos 0) k m)) in
-    (k, ≤-trans (z *ℤ u) (z *ℤ l) M (falls-left l u z below o) k),
-    λ h. g .1 (h .0))
+    let m = f refl in (
+      λ h. let k = g .0 h in
+          let below = cancels z (pos 0) l s (subst (λ t. (z *ℤ l) ≤ℤ t) (sym (zero-*ℤ l)) (≤-trans (z *ℤ l) M (pos 0) k m)) in
+          (k, ≤-trans (z *ℤ u) (z *ℤ l) M (falls-left l u z below o) k),
+      λ h. g .1 (h .0),
+    )
 
 -- the mirror image
 pick-high : (M z l u : ℤ) (b : Bool) → (b ≡ true → pos 0 ≤ℤ M) → (b ≡ false → M ≤ℤ pos 0) → pos 0 <ℤ l → l ≤ℤ u → (ceiling M (cond b l u) ≤ℤ z) ↔ ((M ≤ℤ (z *ℤ l)) × (M ≤ℤ (z *ℤ u)))
@@ -53,8 +57,10 @@ pick-high M z l u b t f s o = by b t f
   where
     turned : (x y : ℤ) → ((negℤ z *ℤ x) ≤ℤ negℤ y) ↔ (y ≤ℤ (z *ℤ x))
     turned x y = (λ h. let k = simp neg-times at h in omega (arith, ints), λ h. simp neg-times (omega (arith, ints)))
+
     mirrored : (e : ℤ) → (negℤ z ≤ℤ floor (negℤ M) e) ↔ (((negℤ z *ℤ l) ≤ℤ negℤ M) × ((negℤ z *ℤ u) ≤ℤ negℤ M)) → (ceiling M e ≤ℤ z) ↔ ((M ≤ℤ (z *ℤ l)) × (M ≤ℤ (z *ℤ u)))
     mirrored e p = (λ h. let k = p .0 (omega (arith, ints)) in (turned l M .0 (k .0), turned u M .0 (k .1)), λ h. let k = p .1 (turned l M .1 (h .0), turned u M .1 (h .1)) in omega (arith, ints))
+
     by : (b : Bool) → (b ≡ true → pos 0 ≤ℤ M) → (b ≡ false → M ≤ℤ pos 0) → (ceiling M (cond b l u) ≤ℤ z) ↔ ((M ≤ℤ (z *ℤ l)) × (M ≤ℤ (z *ℤ u)))
     by true t f = let m = t refl in mirrored l (pick-low (negℤ M) (negℤ z) l u false (λ e. absurd (true≢false (sym e))) (λ e. omega (arith, ints)) s o)
     by false t f = let m = f refl in mirrored u (pick-low (negℤ M) (negℤ z) l u true (λ e. omega (arith, ints)) (λ e. absurd (true≢false e)) s o)
@@ -67,12 +73,15 @@ sign-no M e = omega (arith, ints)
 
 above-rounds : (m d : Range) → pos 0 <ℤ d .lower → Ordered m → Ordered d → RoundedOutward m d (quotient-above m d)
 above-rounds m d s o o′ = record {
-    lower-end = λ z. let p = pick-low (m .lower) z (d .lower) (d .upper) (leZ (pos 0) (m .lower)) (sign-yes (m .lower)) (sign-no (m .lower)) s o′ in
-      (λ h n a i j. let k = p .0 h in (λ t. below-all z (m .lower) (m .upper) n (d .lower) (d .upper) i a j (k .0) (k .1), λ t. let w = j .0 in absurd (omega (arith, ints))),
-      λ h. p .1 (h (m .lower) (d .lower) (≤ℤ-refl (m .lower), o) (≤ℤ-refl (d .lower), o′) .0 s, h (m .lower) (d .upper) (≤ℤ-refl (m .lower), o) (o′, ≤ℤ-refl (d .upper)) .0 (omega (arith, ints))));
-    upper-end = λ z. let p = pick-high (m .upper) z (d .lower) (d .upper) (leZ (pos 0) (m .upper)) (sign-yes (m .upper)) (sign-no (m .upper)) s o′ in
-      (λ h n a i j. let k = p .0 h in (λ t. above-all z (m .lower) (m .upper) n (d .lower) (d .upper) i a j (k .0) (k .1), λ t. let w = j .0 in absurd (omega (arith, ints))),
-      λ h. p .1 (h (m .upper) (d .lower) (o, ≤ℤ-refl (m .upper)) (≤ℤ-refl (d .lower), o′) .0 s, h (m .upper) (d .upper) (o, ≤ℤ-refl (m .upper)) (o′, ≤ℤ-refl (d .upper)) .0 (omega (arith, ints)))) }
+  lower-end = λ z. let p = pick-low (m .lower) z (d .lower) (d .upper) (leZ (pos 0) (m .lower)) (sign-yes (m .lower)) (sign-no (m .lower)) s o′ in (
+    λ h n a i j. let k = p .0 h in (λ t. below-all z (m .lower) (m .upper) n (d .lower) (d .upper) i a j (k .0) (k .1), λ t. let w = j .0 in absurd (omega (arith, ints))),
+    λ h. p .1 (h (m .lower) (d .lower) (≤ℤ-refl (m .lower), o) (≤ℤ-refl (d .lower), o′) .0 s, h (m .lower) (d .upper) (≤ℤ-refl (m .lower), o) (o′, ≤ℤ-refl (d .upper)) .0 (omega (arith, ints))),
+  );
+  upper-end = λ z. let p = pick-high (m .upper) z (d .lower) (d .upper) (leZ (pos 0) (m .upper)) (sign-yes (m .upper)) (sign-no (m .upper)) s o′ in (
+    λ h n a i j. let k = p .0 h in (λ t. above-all z (m .lower) (m .upper) n (d .lower) (d .upper) i a j (k .0) (k .1), λ t. let w = j .0 in absurd (omega (arith, ints))),
+    λ h. p .1 (h (m .upper) (d .lower) (o, ≤ℤ-refl (m .upper)) (≤ℤ-refl (d .lower), o′) .0 s, h (m .upper) (d .upper) (o, ≤ℤ-refl (m .upper)) (o′, ≤ℤ-refl (d .upper)) .0 (omega (arith, ints))),
+  );
+}
 
 -- ---- by a range below 0
 
@@ -100,8 +109,9 @@ module _ (m d : Range) (P : ℤ → ℤ → Type 0) (turn : (n a : ℤ) → P (n
 
 negated-rounds : (m d q : Range) → RoundedOutward (negated m) (negated d) q → RoundedOutward m d q
 negated-rounds m d q r = record {
-    lower-end = λ z. (λ h. from-negated m d (AtMost z) (at-most-negated z) (r .lower-end z .0 h), λ h. r .lower-end z .1 (to-negated m d (AtMost z) (at-most-negated z) h));
-    upper-end = λ z. (λ h. from-negated m d (AtLeast z) (at-least-negated z) (r .upper-end z .0 h), λ h. r .upper-end z .1 (to-negated m d (AtLeast z) (at-least-negated z) h)) }
+  lower-end = λ z. (λ h. from-negated m d (AtMost z) (at-most-negated z) (r .lower-end z .0 h), λ h. r .lower-end z .1 (to-negated m d (AtMost z) (at-most-negated z) h));
+  upper-end = λ z. (λ h. from-negated m d (AtLeast z) (at-least-negated z) (r .upper-end z .0 h), λ h. r .upper-end z .1 (to-negated m d (AtLeast z) (at-least-negated z) h));
+}
 
 pub rounds-negated : (m d q : Range) → RoundedOutward m d q → RoundedOutward (negated m) (negated d) q
 rounds-negated m d q r = negated-rounds (negated m) (negated d) q (subst (λ e. RoundedOutward (negated (negated m)) e q) (sym (back d)) (subst (λ e. RoundedOutward e d q) (sym (back m)) r))
@@ -142,7 +152,8 @@ quotient-mono m m′ d e o o′ od s =
     let inside : (n : ℤ) → Inside n m → Inside n m′ = λ n i. (≤-trans _ _ _ (s .low) (i .0), ≤-trans _ _ _ (i .1) (s .high)) in
     record {
       low = r .lower-end (quotient m′ d .lower) .1 (λ n a i j. r′ .lower-end (quotient m′ d .lower) .0 (≤ℤ-refl _) n a (inside n i) j);
-      high = r .upper-end (quotient m′ d .upper) .1 (λ n a i j. r′ .upper-end (quotient m′ d .upper) .0 (≤ℤ-refl _) n a (inside n i) j) }
+      high = r .upper-end (quotient m′ d .upper) .1 (λ n a i j. r′ .upper-end (quotient m′ d .upper) .0 (≤ℤ-refl _) n a (inside n i) j);
+    }
 
 -- ---- the common part
 
@@ -180,7 +191,9 @@ shared-is a b r e =
       right = record { low = low .1 .0; high = high .1 .1 };
       all = λ s o p q. record {
         low = c .1 (s .lower) .1 ((p .low, ≤-trans _ _ _ o (p .high)), (q .low, ≤-trans _ _ _ o (q .high))) .0;
-        high = c .1 (s .upper) .1 ((≤-trans _ _ _ (p .low) o, p .high), (≤-trans _ _ _ (q .low) o, q .high)) .1 } }
+        high = c .1 (s .upper) .1 ((≤-trans _ _ _ (p .low) o, p .high), (≤-trans _ _ _ (q .low) o, q .high)) .1;
+      };
+    }
 
 -- two ranges around a third share a range around it
 pub shared-has : (a b s : Range) → Ordered s → s ⊆ a → s ⊆ b → (r : Range) × (shared a b ≡ Some r) × (s ⊆ r)

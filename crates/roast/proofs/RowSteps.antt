@@ -86,9 +86,11 @@ every-split p i (suc n) h k = go (ℕ-discrete (suc n) i) (λ l. every-split p i
     exchanged true false true = refl
     exchanged true false false = refl
     exchanged false b c = refl
+
     kept : (b : Bool) → cond b true false ≡ b
     kept true = refl
     kept false = refl
+
     go : Dec (suc n ≡ i) → (i ≤ n → every p n ≡ cond (every (λ j. cond (eqb j i) true (p j)) n) (p i) false) → every p (suc n) ≡ cond (every (λ j. cond (eqb j i) true (p j)) (suc n)) (p i) false
     go (yes e) rest =
         let t : eqb (suc n) i ≡ true = eq-eqb (suc n) i e in
@@ -103,10 +105,6 @@ told-if : (p : Place) (r : Range) → Some r ≡ found (answer p) → (is-told p
 told-if (told q) r h = (refl, cc)
 told-if (refused a b c) r h = let z : _≡_ {A = ℕ} 0 1 = cc in absurd (omega arith)
 
-untold-if : (p : Place) → None ≡ found (answer p) → is-told p ≡ false
-untold-if (told q) h = let z : _≡_ {A = ℕ} 0 1 = cc in absurd (omega arith)
-untold-if (refused a b c) h = refl
-
 module _ (m : Meaning) (xs : Box) (i : ℕ) (lower : 1 ≤ i) (upper : i ≤ length xs) (narrow : (k : ℕ) → Between (2 ^ 30) (getD xs k nothing)) where
   answers-is : length xs ≡ m .size → row-answers m xs i ≡ cond (cond (others-told m i (m .size)) (is-told (m .coefficient i i)) false) (is-told (m .right-side i)) false
   answers-is h =
@@ -116,10 +114,6 @@ module _ (m : Meaning) (xs : Box) (i : ℕ) (lower : 1 ≤ i) (upper : i ≤ len
   -- a row that does not answer leaves nothing
   no-answer : row-answers m xs i ≡ false → narrowed m xs i ≡ None
   no-answer h = rw h
-
-  cond-no : (s : Bool) → cond s false false ≡ false
-  cond-no true = refl
-  cond-no false = refl
 
   -- the box has a range for each node of the system, or the row has no sum
   fits : {P : Type 0} → (length xs ≡ m .size → P) → (row-sum m xs i i ≡ None → row-answers m xs i ≡ false → P) → P
@@ -137,16 +131,6 @@ module _ (m : Meaning) (xs : Box) (i : ℕ) (lower : 1 ≤ i) (upper : i ≤ len
       by : length xs ≡ m .size → (t : Bool) → others-told m i (m .size) ≡ t → None ≡ cond t (Some (total (term m xs i) (m .size))) None → narrowed m xs i ≡ None
       by e true f k = let z : _≡_ {A = ℕ} 0 1 = cc in absurd (omega arith)
       by e false f k = no-answer (rw (answers-is e, f))
-
-  pub no-side : None ≡ found (right-side-answer m i) → narrowed m xs i ≡ None
-  no-side h = fits
-      (λ e. no-answer (rw (answers-is e, untold-if (m .right-side i) (h ∙ ap found (right-side-at m i (lower, omega arith)))) (cond-no _)))
-      (λ a b. no-answer b)
-
-  pub no-diagonal : None ≡ found (coefficient-answer m i i) → narrowed m xs i ≡ None
-  no-diagonal h = fits
-      (λ e. no-answer (answers-is e ∙ ap (λ b. cond (cond (others-told m i (m .size)) b false) (is-told (m .right-side i)) false) (untold-if (m .coefficient i i) (h ∙ ap found (coefficient-at m i i (lower, omega arith) (lower, omega arith)))) ∙ ap (λ b. cond b (is-told (m .right-side i)) false) (cond-no (others-told m i (m .size)))))
-      (λ a b. no-answer b)
 
   -- all three are there
   module _ (sum side diagonal : Range) (s : Some sum ≡ row-sum m xs i i) (b : Some side ≡ found (right-side-answer m i)) (d : Some diagonal ≡ found (coefficient-answer m i i)) where
@@ -168,9 +152,6 @@ module _ (m : Meaning) (xs : Box) (i : ℕ) (lower : 1 ≤ i) (upper : i ≤ len
             let q = told-if (m .coefficient i i) diagonal (d ∙ ap found (coefficient-at m i i node node)) in
             record { answers = answers-is e ∙ ap₂ (λ x y. cond x y false) (ap₂ (λ x y. cond x y false) f (q .0)) (p .0); sum-is = cc; side-is = p .1; diagonal-is = q .1 }
         by e false f k = let z : _≡_ {A = ℕ} 0 1 = cc in absurd (omega arith)
-
-    pub holds-nothing : holds-zero diagonal ≡ true → narrowed m xs i ≡ None
-    holds-nothing h = rw (there .answers, there .diagonal-is, h)
 
     pub leaves : holds-zero diagonal ≡ false → narrowed m xs i ≡ shared (at xs i) (quotient (minus side sum) diagonal)
     leaves h = rw (there .answers) (ap (λ t. cond t None (shared (at xs i) (quotient (numerator m xs i) (coefficient-range m i i)))) (ap holds-zero (there .diagonal-is) ∙ h) ∙ (λ k. shared (at xs i) (quotient (minus (there .side-is k) (there .sum-is k)) (there .diagonal-is k))))

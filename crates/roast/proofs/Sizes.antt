@@ -20,6 +20,7 @@ times-exchange a b c d = same-in _ _ (simp (up-product, down-product) (omega ari
   where
     up-product : (a b : ℤ) → up (a *ℤ b) ≡ up a * up b + down a * down b
     up-product a b = product-is a b .0
+
     down-product : (a b : ℤ) → down (a *ℤ b) ≡ up a * down b + down a * up b
     down-product a b = product-is a b .1
 

@@ -41,13 +41,16 @@ one-term f F i (suc k) r p q h s = go (ℕ-discrete i (suc k)) (λ l. one-term f
   where
     z : Range
     z = total (others F i) k
+
     earlier : (suc k ≡ i → ⊥) → f i ∈ minus (minus r (F (suc k))) z → f i ∈ minus r (total (others F i) (suc k))
     earlier l t = in-wider (f i) (subst (λ b. minus (minus r (F (suc k))) z ⊆ minus r (plus z (cond b nothing (F (suc k))))) (sym (ne-eqb (suc k) i l)) (regrouped r (F (suc k)) z)) t
+
     last : i ≡ suc k → f i ∈ minus r (total (others F i) (suc k))
     last e =
         let before : sum f k ∈ z = in-total f (others F i) k (λ j x y. subst (λ b. f j ∈ cond b nothing (F j)) (sym (ne-eqb j i (λ e′. omega arith))) (h j x (omega arith))) in
         let w : minus r z ⊆ minus r (plus z (others F i (suc k))) = subst (λ b. minus r z ⊆ minus r (plus z (cond b nothing (F (suc k))))) (sym (eq-eqb (suc k) i (sym e))) (unchanged r z) in
         subst (λ n. f n ∈ minus r (total (others F i) (suc k))) (sym e) (in-wider (f (suc k)) w (in-right (sum f k) (f (suc k)) r z s before))
+
     go : Dec (i ≡ suc k) → (i ≤ k → f i ∈ minus (minus r (F (suc k))) z) → f i ∈ minus r (total (others F i) (suc k))
     go (yes e) rest = last e
     go (no e) rest = earlier (λ e′. e (sym e′)) (rest (omega arith))
@@ -62,22 +65,26 @@ module _ (m : Meaning) (lawful : Lawful m) (s : Member m) (x : Point) (solves : 
     where
       terms : ℕ → Fraction
       terms j = s .coefficient i j ⊗ component x j
+
       picked : (j : ℕ) → IsNode m j → s .coefficient i j ∈ coefficient-range m i j
       picked j q = picked-in (m .coefficient i j) (s .coefficient i j) (s .coefficients-picked i j node q)
+
       products : (j : ℕ) → 1 ≤ j → j ≤ m .size → terms j ∈ times (coefficient-range m i j) (at B j)
       products j p q = in-times (s .coefficient i j) (component x j) (coefficient-range m i j) (at B j) (picked j (p, q)) (holds j (p, q))
+
       numerators : terms i ∈ numerator m B i
       numerators = one-term terms (λ j. times (coefficient-range m i j) (at B j)) i (m .size) (right-side-range m i) (node .0) (node .1) products (in-like (sum terms (m .size)) (s .right-side i) (right-side-range m i) (solves i node) (picked-in (m .right-side i) (s .right-side i) (s .right-sides-picked i node)))
+
       quotients : component x i ∈ quotient (numerator m B i) (coefficient-range m i i)
       quotients = in-quotient (s .coefficient i i) (component x i) (numerator m B i) (coefficient-range m i i) e (numerator-ordered m lawful B i node) (coefficient-ordered m lawful i i node node) (picked i node) numerators
 
   set-holds : (B : Box) (i : ℕ) (r : Range) → 1 ≤ i → Holds m B x → component x i ∈ r → Holds m (set B (i - 1) r) x
   set-holds B i r l h k j n =
       subst (λ a. component x a ∈ getD (set B (i - 1) r) (j - 1) nothing) (omega arith)
-        (each-set (λ a y. IsNode m (suc a) → component x (suc a) ∈ y) B (i - 1) r
-          (λ a p. let e : suc a - 1 ≡ a = omega arith in subst (λ c. component x (suc a) ∈ getD B c nothing) e (h (suc a) p))
-          (λ p. let e : i ≡ suc (i - 1) = omega arith in subst (λ a. component x a ∈ r) e k)
-          (j - 1) (omega arith))
+      (each-set (λ a y. IsNode m (suc a) → component x (suc a) ∈ y) B (i - 1) r
+      (λ a p. let e : suc a - 1 ≡ a = omega arith in subst (λ c. component x (suc a) ∈ getD B c nothing) e (h (suc a) p))
+      (λ p. let e : i ≡ suc (i - 1) = omega arith in subst (λ a. component x a ∈ r) e k)
+      (j - 1) (omega arith))
 
   move-holds : {B C : Box} {bs : List Bound} → length B ≡ m .size → Holds m B x → InAll x bs → Move m B C bs → Holds m C x
   move-holds fit h a stays = h

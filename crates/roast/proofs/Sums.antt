@@ -93,9 +93,11 @@ greatest f u (suc k) p = go (greatest f u k (λ j h. p j (omega arith)))
   where
     n : ℕ
     n = suc (suc k)
+
     by : (t : Greatest f u (suc k)) → Dec (f n * u (t .place) ≤ f (t .place) * u n) → Greatest f u n
     by t (yes h) = record { place = t .place; inside = omega arith; most = λ j k′. by-last (λ i. f i * u (t .place) ≤ f (t .place) * u i) (suc k) j k′ (t .most j) h }
     by t (no h) = record { place = n; inside = omega arith; most = λ j k′. by-last (λ i. f i * u n ≤ f n * u i) (suc k) j k′ (λ l. ratio-trans (f j) (u j) (f (t .place)) (u (t .place)) (f n) (u n) (p (t .place) (omega arith)) (t .most j l) (omega arith)) (omega arith) }
+
     go : Greatest f u (suc k) → Greatest f u n
     go t = by t (decLe (f n * u (t .place)) (f (t .place) * u n))
 

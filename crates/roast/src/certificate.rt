@@ -199,7 +199,12 @@ fn first_range(end: u64) -> Range
 }
 
 // The first box: ±k of each node, or the first node whose k is too large.
-fn fill<S: System>(system: &S, certificate: &[i64], sides: &[u64; 32], margins: &[u64; 32]) -> Result<Bounds, Refusal>
+fn fill<S: System>(
+    system: &S,
+    certificate: &[i64],
+    sides: &[u64; 32],
+    margins: &[u64; 32],
+) -> Result<Bounds, Refusal>
     requires { ⌜ certificate-refusal (meaning (now system) .size) (now certificate) ≡ None ⌝ }
     requires { ⌜ Sides (meaning (now system)) (now sides) ⌝ ∗ ⌜ Margins (meaning (now system)) (now certificate) (now margins) ⌝ }
     ensures boxed { λ r. ⌜ Cases r (λ b. box b ≡ first-box (meaning (now (system .entry))) (now (certificate .entry))) (λ _. Unit {0}) ⌝ }
@@ -207,7 +212,12 @@ fn fill<S: System>(system: &S, certificate: &[i64], sides: &[u64; 32], margins: 
 {
     let mut bounds = Bounds::none();
     for i in 0..certificate.len() {
-        let end = first_end(certificate[i].unsigned_abs(), sides, margins, certificate.len());
+        let end = first_end(
+            certificate[i].unsigned_abs(),
+            sides,
+            margins,
+            certificate.len(),
+        );
         if END_LIMIT < end {
             return Err(Refusal::Wide { place: i + 1 });
         }

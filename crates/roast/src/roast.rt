@@ -3,7 +3,7 @@ ghost use mathlib.Core.List.{[]};
 ghost use Prim.Native.Nat.{ℕ};
 ghost use Rattle.std.specs.declared.result.Result.the-variants.{Ok, Err};
 ghost use Rattle.roast.specs.declared.call.Answer.the-variants.{AtRest};
-ghost use Rattle.roast.specs.Certificates.{opening, Opens, first-box};
+ghost use Rattle.roast.specs.Certificates.{opening, Opens, first-box, k, LeastBound};
 ghost use Rattle.roast.specs.Machine.{outcome, row-step-at, round, reading-at, readings, rest, ends-at};
 ghost use Rattle.roast.specs.Answers.{changed, changes, ends, opened, opened-box};
 ghost use Rattle.roast.specs.Boxed.{box};
@@ -39,6 +39,7 @@ impl<S: System> Roast<S> {
         ensures answers { λ r. ⌜ r ≡ opened (opening (meaning (now (self .entry) .system)) (now (certificate .entry))) ⌝ }
         ensures leaves { λ r. ⌜ box (now (self .exit) .bounds) ≡ opened-box (box (now (self .entry) .bounds)) (opening (meaning (now (self .entry) .system)) (now (certificate .entry))) ⌝ }
         ensures opens_exactly_when_certified { λ r. ⌜ elim r [ Ok done ↦ Opens (meaning (now (self .entry) .system)) (now (certificate .entry)) × (box (now (self .exit) .bounds) ≡ first-box (meaning (now (self .entry) .system)) (now (certificate .entry))) | Err e ↦ (Opens (meaning (now (self .entry) .system)) (now (certificate .entry)) → ⊥) ] ⌝ }
+        ensures each_end_is_the_least_bound { λ r. ⌜ elim r [ Ok done ↦ ((i : ℕ) → LeastBound (meaning (now (self .entry) .system)) (now (certificate .entry)) i (k (meaning (now (self .entry) .system)) (now (certificate .entry)) i)) | Err e ↦ Unit {0} ] ⌝ }
         ensures keeps_the_system { λ r. ⌜ now (self .exit) .system ≡ now (self .entry) .system ⌝ }
     {
         match first_bounds(&self.system, certificate) {

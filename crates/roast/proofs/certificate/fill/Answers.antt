@@ -33,9 +33,10 @@ first-end-end-requires g c κs =
     let f : SFits w64 (getD us i (pos 0)) = search needs in
     let b = number-within _ us (c .pre .0) i (omega arith) in
     let a = c .told-sides in
-    let d = c .told-margins in
-    ((subst (λ z. z ≤ 2 ^ 20) (sym (c .unsigned-abs .ensures .value ∙ ap natAbs (toZ-ofZ w64 (getD us i (pos 0)) f))) b, (omega arith, omega arith)),
-    entries-within m us (c .args .sides .now) (c .args .margins .now) (length us) lawful n (c .pre .1 .0) (c .pre .1 .1))
+    let d = c .told-margins in (
+      (subst (λ z. z ≤ 2 ^ 20) (sym (c .unsigned-abs .ensures .value ∙ ap natAbs (toZ-ofZ w64 (getD us i (pos 0)) f))) b, (omega arith, omega arith)),
+      entries-within m us (c .args .sides .now) (c .args .margins .now) (length us) lawful n (c .pre .1 .0) (c .pre .1 .1),
+    )
 
 pub returns-then-end-gt-END-LIMIT : need.returns-then-end-gt-END-LIMIT
 returns-then-end-gt-END-LIMIT g c =
@@ -64,10 +65,11 @@ loop-i-again g c =
     let f : SFits w64 (getD us i (pos 0)) = search needs in
     let number = c .unsigned-abs .ensures .value ∙ ap natAbs (toZ-ofZ w64 (getD us i (pos 0)) f ∙ sym (number-at us i)) in
     let e = c .first-end-end .ensures ∙ end-is m us (c .args .sides .now) (c .args .margins .now) i (length us) (c .unsigned-abs .result) n (c .pre .1 .0) (c .pre .1 .1) number in
-    let r : c .first-range .result ≡ first-range m us (i + 1) = c .first-range .ensures .is ∙ ap (λ x. range (negℤ (pos x)) (pos x)) e in
-    (c .push .ensures .is ∙ ap (λ (xs : List Range). xs ++ c .first-range .result ∷ []) (c .loop-i .inv .0) ∙ listed-more (first-range m us) i (c .first-range .result) r,
-    c .push .ensures .count ∙ ap (λ n. n + 1) (c .loop-i .inv .1),
-    first-more (wide-refusal m us) i (c .loop-i .inv .2) (wide-passes m us i (c .first-end-end .result) e (c .if-end-gt-END-LIMIT .left)))
+    let r : c .first-range .result ≡ first-range m us (i + 1) = c .first-range .ensures .is ∙ ap (λ x. range (negℤ (pos x)) (pos x)) e in (
+      c .push .ensures .is ∙ ap (λ (xs : List Range). xs ++ c .first-range .result ∷ []) (c .loop-i .inv .0) ∙ listed-more (first-range m us) i (c .first-range .result) r,
+      c .push .ensures .count ∙ ap (λ n. n + 1) (c .loop-i .inv .1),
+      first-more (wide-refusal m us) i (c .loop-i .inv .2) (wide-passes m us i (c .first-end-end .result) e (c .if-end-gt-END-LIMIT .left)),
+    )
 
 pub returns : need.returns
 returns g c =

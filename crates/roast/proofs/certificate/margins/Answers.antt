@@ -47,11 +47,12 @@ loop-i-again g c =
     let x = c .margin-v .result in
     let is = c .margin-v .ensures .is in
     let above : pos 1 ≤ℤ x = omega (arith, ints) in
-    let held : natAbs (toZ w64 (ofZ w64 x)) ≡ natAbs (v m us (i + 1)) = ap natAbs (toZ-ofZ w64 x (let f : SFits w64 x = search needs in f) ∙ is) in
-    (holding-more (λ j. natAbs (v m us j)) i xs (natAbs (toZ w64 (ofZ w64 x))) l held (c .loop-i .inv .0),
-    length-set xs i (natAbs (toZ w64 (ofZ w64 x))) ∙ long,
-    first-more (dominance-refusal m us) i (c .loop-i .inv .2) (dominance-passes m us i x is above),
-    each-more (λ j. (1 ≤ natAbs (v m us j)) × (natAbs (v m us j) ≤ 2 ^ 40)) i (c .loop-i .inv .3) (margin-bounds m us i x is above (c .margin-v .ensures .small)))
+    let held : natAbs (toZ w64 (ofZ w64 x)) ≡ natAbs (v m us (i + 1)) = ap natAbs (toZ-ofZ w64 x (let f : SFits w64 x = search needs in f) ∙ is) in (
+      holding-more (λ j. natAbs (v m us j)) i xs (natAbs (toZ w64 (ofZ w64 x))) l held (c .loop-i .inv .0),
+      length-set xs i (natAbs (toZ w64 (ofZ w64 x))) ∙ long,
+      first-more (dominance-refusal m us) i (c .loop-i .inv .2) (dominance-passes m us i x is above),
+      each-more (λ j. (1 ≤ natAbs (v m us j)) × (natAbs (v m us j) ≤ 2 ^ 40)) i (c .loop-i .inv .3) (margin-bounds m us i x is above (c .margin-v .ensures .small)),
+    )
 
 pub returns : need.returns
 returns g c =
@@ -61,4 +62,5 @@ returns g c =
     let e : m .size ≡ c .loop-i .i = omega arith in
     record {
       margins = (λ j p q. c .loop-i .inv .0 j p (omega arith), λ j p q. c .loop-i .inv .3 j p (omega arith));
-      first = ap (first (dominance-refusal m us)) e ∙ c .loop-i .inv .2 }
+      first = ap (first (dominance-refusal m us)) e ∙ c .loop-i .inv .2;
+    }

@@ -45,4 +45,5 @@ returns g c =
     let q = c .quotient .ensures .is ∙ ap (λ (n : Range). quotient n diagonal) (c .minus-numerator .ensures) in
     record {
       is = e ∙ (λ k. shared (c .at .ensures .is k) (q k)) ∙ sym f;
-      narrow = subst (λ (o : Option Range). Cases o (Unit {0}) (Between (2 ^ 30))) (sym e) (shared-narrow (2 ^ 30) (c .at .result) (c .quotient .result) (c .at .ensures .narrow)) }
+      narrow = subst (λ (o : Option Range). Cases o (Unit {0}) (Between (2 ^ 30))) (sym e) (shared-narrow (2 ^ 30) (c .at .result) (c .quotient .result) (c .at .ensures .narrow));
+    }

@@ -35,5 +35,5 @@ returns c =
     record {
       answers = read-answers x (c .args .node) (c .args .lower) (c .args .upper) (c .shared-range .result) n t e (c .accept .result) (c .accept .ensures .answers);
       leaves = read-leaves x (c .args .node) (c .args .lower) (c .args .upper) (c .shared-range .result) n t e (box (c .accept .last .bounds)) (c .accept .ensures .leaves);
-      count = c .accept .ensures .count
+      count = c .accept .ensures .count;
     }

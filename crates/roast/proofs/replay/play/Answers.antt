@@ -25,5 +25,5 @@ returns-in-Readings g c =
       answers = sym (ap (λ w. w .answer) o ∙ readings-taken x [] rs);
       leaves = r .leaves ∙ ap (λ w. w .box) (sym o);
       records = ap readings (take-at ws _ (c .in-Readings .records .len) n ∙ r .writes-each-record ∙ ap (λ w. w .records) (sym o)) ∙ ap (λ (a : Call). answered (asked a) (outcome m x (asked (c .args .call .now)))) (sym e);
-      same = r .keeps-the-system
+      same = r .keeps-the-system;
     }

@@ -15,8 +15,10 @@ returns-in-Err g c =
       replays-as-the-machine-and-is-dependable = record {
         not-opened = e .opens-exactly-when-certified;
         entries-stay = refl;
-        box-stays = e .leaves ∙ refused-stays (box (c .args .self .now .bounds)) _ (c .in-Err .refusal) (e .answers) };
-      keeps-the-system = e .keeps-the-system }
+        box-stays = e .leaves ∙ refused-stays (box (c .args .self .now .bounds)) _ (c .in-Err .refusal) (e .answers);
+      };
+      keeps-the-system = e .keeps-the-system;
+    }
 
 pub returns : need.returns
 returns g c =
@@ -33,5 +35,7 @@ returns g c =
         opened = o .0;
         answers-and-records = p .answers ∙ (λ k. replayed (g .S·System .meaning (e .keeps-the-system k)) (o .1 k) cs);
         box-after = p .leaves ∙ (λ k. after (g .S·System .meaning (e .keeps-the-system k)) (o .1 k) cs);
-        dependable = dependable m us (g .S·System·met .lawful s) (o .0 .passes) };
-      keeps-the-system = p .same ∙ e .keeps-the-system }
+        dependable = dependable m us (g .S·System·met .lawful s) (o .0 .passes);
+      };
+      keeps-the-system = p .same ∙ e .keeps-the-system;
+    }

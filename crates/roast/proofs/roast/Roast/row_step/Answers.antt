@@ -18,4 +18,5 @@ returns g c =
     record {
       answers = rw n (ap changed (p .answers) ∙ stepped-answer x (row-step m x i));
       leaves = rw n (p .leaves ∙ stepped-box x (row-step m x i));
-      keeps-the-system = refl }
+      keeps-the-system = refl;
+    }
