@@ -2,8 +2,8 @@
 use Prim.Native.Nat.{ℕ, suc, _+_, _*_, _≤_, _<_}
 use native.Mathlib.Omega.{arith}
 use native.Mathlib.Nat.{mul-le-mul, mul-le-mul-right, le-of-mul-le-mul-right, eq-of-mul-eq-mul-right}
-use mathlib.Core.Path.{_≡_, refl, ap, sym, _∙_}
-use lib.IntN.{ℤ, pos, negsuc, negℤ, natAbs, _+ℤ_, _*ℤ_, *ℤ-comm}
+use mathlib.Core.Path.{_≡_, refl, ap}
+use lib.IntN.{ℤ, pos, negsuc, negℤ, natAbs, _+ℤ_, _*ℤ_}
 use lib.Signed.{_≤ℤ_}
 use borrow.Author.Differences.{ints, up, down, same-in, at-most-in, le-out, product-is, sum-is}
 use Rattle.std.specs.Numbers.{minZ, maxZ}

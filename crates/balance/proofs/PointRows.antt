@@ -8,21 +8,19 @@ use mathlib.Core.Logic.{_↔_}
 use lib.Dec.{eqb, T}
 use lib.ListN.{length, getD}
 use lib.IntN.{ℤ, pos, negsuc, negℤ, natAbs}
-use lib.Signed.{_≤ℤ_, leZ}
 use borrow.Author.Differences.{ints}
 use Rattle.std.specs.declared.option.Option.{Option}
 use Rattle.std.specs.declared.option.Option.the-variants.{Some, None}
-use Rattle.std.specs.declared.result.Result.{Result}
-use Rattle.std.specs.declared.result.Result.the-variants.{Ok, Err}
+use Rattle.std.specs.declared.result.Result.the-variants.{Ok}
 use Rattle.std.proofs.shelf.Tests.{eq-eqb, ne-eqb, eqb-true}
 use Rattle.std.proofs.shelf.Lists.{getD-map, length-map}
 use Rattle.balance.specs.declared.range.Range.{Range}
 use Rattle.balance.specs.declared.refusal.Refusal.{Refusal}
 use Rattle.balance.specs.declared.refusal.Refusal.the-variants.{Point as PointRefusal}
-use Rattle.balance.specs.Ranges.{range, only, Ordered, Between, times, total, meets}
+use Rattle.balance.specs.Ranges.{only, Between, times, total, meets}
 use Rattle.balance.specs.Meanings.{Place, told, refused, Meaning, IsNode, Told, Lawful, EveryPlaceAnswers, answer, coefficient-answer, right-side-answer, range-at}
 use Rattle.balance.specs.Places.{first, unless-refused, first-refusal, every}
-use Rattle.balance.specs.Rows.{at, found, small, product, term, terms, sum-of, row-sum}
+use Rattle.balance.specs.Rows.{at, found, small, terms, sum-of, row-sum}
 use Rattle.balance.specs.Points.{numerator, between, numerator-refusal, point-refusal, row, fits, possible-answer, point, Possible, TellsPossible}
 use Rattle.balance.proofs.Searches.{none-of, coefficient-at, right-side-at}
 use Rattle.balance.proofs.RowSums.{row-sum-is}

@@ -3,19 +3,19 @@ use Prim.Native.Nat.{ℕ, zero, suc, _+_, _*_, _^_, _≤_, _<_}
 use native.Mathlib.Omega.{arith}
 use native.Mathlib.Decide.{ℕ-discrete}
 use native.Mathlib.Nat.{mul-le-mul-right, mul-pos}
-use mathlib.Core.Path.{_≡_, refl, ap, sym, subst, _∙_}
+use mathlib.Core.Path.{_≡_, refl, ap, sym, subst}
 use mathlib.Core.Logic.{_↔_}
 use mathlib.Core.Bool.{Bool, true, false, cond}
 use lib.Dec.{T}
 use lib.IntN.{ℤ, pos, _*ℤ_}
-use lib.Signed.{_≤ℤ_, leZ}
+use lib.Signed.{_≤ℤ_}
 use borrow.Author.Differences.{ints, up, down, at-most-in, product-is}
 use Rattle.std.specs.Numbers.{maxZ}
 use Rattle.std.proofs.shelf.Signed.{clamps}
 use Rattle.balance.specs.declared.range.Range.{Range}
 use Rattle.balance.specs.Ranges.{only, Ordered, times, meets}
 use Rattle.balance.specs.Meanings.{Place, told, refused, Meaning, IsNode, Within, Told, Lawful, EveryPlaceAnswers, range-at}
-use Rattle.balance.specs.Members.{Fraction, Member, Point, PickedAt, component, sum, Solves, _∈_, _≈_, _⊗_}
+use Rattle.balance.specs.Members.{Fraction, Member, Point, PickedAt, component, sum, _∈_, _≈_, _⊗_}
 use Rattle.balance.specs.Places.{every}
 use Rattle.balance.specs.Points.{row, fits, Possible}
 use Rattle.balance.proofs.Integers.{times-assoc, le-times, le-parts, le-cancel}

@@ -1,8 +1,8 @@
 -- The arithmetic of ranges extends that of whole numbers, and stays within bounds.
-use Prim.Native.Nat.{ℕ, zero, suc, _*_, _^_, _≤_}
+use Prim.Native.Nat.{ℕ, _*_, _^_, _≤_}
 use native.Mathlib.Omega.{arith}
 use mathlib.Core.Path.{_≡_, subst}
-use lib.IntN.{ℤ, pos, natAbs, _+ℤ_, _-ℤ_, _*ℤ_, *ℤ-comm}
+use lib.IntN.{ℤ, natAbs, _+ℤ_, _-ℤ_, _*ℤ_, *ℤ-comm}
 use lib.Signed.{_≤ℤ_}
 use borrow.Author.Differences.{ints}
 use mir.Syntax.{w64}
@@ -10,7 +10,7 @@ use mir.Val.{SFits, toZ, ofZ}
 use Rattle.std.specs.Numbers.{minZ, maxZ}
 use Rattle.std.proofs.shelf.Signed.{clamps, toZ-ofZ}
 use Rattle.balance.specs.declared.range.Range.{Range}
-use Rattle.balance.specs.Ranges.{range, only, Ordered, Inside, _⊆_, Between, Fits64, plus, minus, times, total, IntervalExtension}
+use Rattle.balance.specs.Ranges.{range, only, Ordered, Inside, _⊆_, Between, Fits64, plus, minus, times, IntervalExtension}
 use Rattle.balance.proofs.Integers.{product-within, between-low, between-high}
 
 -- ---- sums and differences

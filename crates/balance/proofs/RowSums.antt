@@ -1,5 +1,5 @@
 -- What an answer says of its place, and the sum of a row term by term.
-use Prim.Native.Nat.{ℕ, zero, suc, _+_, _-_, _*_, _^_, _≤_, _<_}
+use Prim.Native.Nat.{ℕ, zero, suc, _+_, _-_, _^_, _≤_, _<_}
 use native.Mathlib.Omega.{arith}
 use native.Mathlib.Decide.{ℕ-discrete}
 use mathlib.Core.Path.{_≡_, refl, sym, ap, subst, _∙_}
@@ -11,21 +11,18 @@ use lib.IntN.{ℤ, pos}
 use lib.Signed.{_≤ℤ_}
 use borrow.Author.Differences.{ints}
 use mir.Syntax.{w64}
-use mir.Val.{SFits, toZ, ofZ}
+use mir.Val.{toZ, ofZ}
 use Rattle.std.specs.declared.option.Option.{Option}
 use Rattle.std.specs.declared.option.Option.the-variants.{Some, None}
-use Rattle.std.specs.declared.result.Result.{Result}
 use Rattle.std.specs.declared.result.Result.the-variants.{Ok, Err}
 use Rattle.std.proofs.shelf.Ways.{tells}
 use Rattle.std.proofs.shelf.Tests.{eq-eqb, ne-eqb}
 use Rattle.std.proofs.shelf.Lists.{getD-map}
-use Rattle.std.proofs.shelf.Signed.{toZ-ofZ}
 use Rattle.balance.specs.declared.range.Range.{Range}
-use Rattle.balance.specs.declared.refusal.Refusal.{Refusal}
 use Rattle.balance.specs.declared.refusal.Refusal.the-variants.{Node}
-use Rattle.balance.specs.Ranges.{range, only, Between, Fits64, plus, times}
-use Rattle.balance.specs.Meanings.{Place, told, refused, Meaning, IsNode, Within, Lawful, answer, is-node, coefficient-answer, right-side-answer}
-use Rattle.balance.specs.Rows.{found, small, product, term, added, sum-of, at, terms, row-sum}
+use Rattle.balance.specs.Ranges.{range, only, Between, plus, times}
+use Rattle.balance.specs.Meanings.{Place, told, refused, Meaning, Within, Lawful, answer, is-node, coefficient-answer, right-side-answer}
+use Rattle.balance.specs.Rows.{found, small, term, added, sum-of, at, terms, row-sum}
 
 -- ---- an answer, and the limits of its place
 

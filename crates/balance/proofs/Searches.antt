@@ -1,9 +1,9 @@
 -- The search for the first refused place.
 use Prim.Native.Nat.{ℕ, zero, suc, _+_, _≤_, _<_}
 use native.Mathlib.Omega.{arith}
-use native.Mathlib.Decide.{decLe, ℕ-discrete}
+use native.Mathlib.Decide.{ℕ-discrete}
 use mathlib.Core.Path.{_≡_, refl, sym, ap, subst, _∙_}
-use mathlib.Core.Logic.{_⊎_, inl, inr, ⊎-elim}
+use mathlib.Core.Logic.{⊎-elim}
 use mathlib.Core.Bool.{Bool, true, false, cond}
 use lib.Dec.{leb}
 use lib.IntN.{ℤ}
@@ -14,7 +14,7 @@ use Rattle.std.specs.declared.result.Result.the-variants.{Ok, Err}
 use Rattle.std.proofs.shelf.Ways.{tells}
 use Rattle.balance.specs.declared.refusal.Refusal.{Refusal}
 use Rattle.balance.specs.Meanings.{Place, told, refused, Meaning, IsNode, Told, EveryPlaceAnswers, answer, is-node, coefficient-answer, right-side-answer}
-use Rattle.balance.specs.Places.{or-else, first, unless-refused, refusal-at, row-refusal, first-refusal, place, IsPlace, Before, FirstRefused, Searched}
+use Rattle.balance.specs.Places.{or-else, first, unless-refused, refusal-at, row-refusal, first-refusal, place, FirstRefused, Searched}
 
 -- ---- the first of a list of refusals
 

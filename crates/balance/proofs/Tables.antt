@@ -1,19 +1,18 @@
 -- The cells of a table: where they lie, and that the table keeps the law of systems.
 use Prim.Native.Nat.{ℕ, zero, suc, _+_, _-_, _*_, _^_, _≤_, _<_}
 use native.Mathlib.Omega.{arith}
-use mathlib.Core.Path.{_≡_, refl, sym, _∙_, ap, subst}
+use mathlib.Core.Path.{_≡_, refl}
 use mathlib.Core.Bool.{Bool, true, false, cond}
 use mathlib.Core.List.{List, [], _∷_, map}
-use lib.ListN.{length, getD}
-use lib.IntN.{ℤ, pos, negℤ}
+use lib.ListN.{getD}
+use lib.IntN.{pos, negℤ}
 use lib.Signed.{leZ}
 use borrow.Author.Differences.{ints}
 use Rattle.std.proofs.shelf.Bits.{mul-add-lt}
-use Rattle.std.proofs.shelf.Lists.{getD-map}
 use Rattle.balance.specs.declared.range.Range.{Range}
 use Rattle.balance.specs.Ranges.{only, Ordered}
-use Rattle.balance.specs.Meanings.{Meaning, Place, told, refused, Lawful, Within, limited}
-use Rattle.balance.specs.Tables.{cell, table, Counted}
+use Rattle.balance.specs.Meanings.{told, refused, Lawful, Within, limited}
+use Rattle.balance.specs.Tables.{table, Counted}
 
 -- row i and column j lie within n rows of n + 1 cells
 pub index-below : (n i j : ℕ) → 1 ≤ i → i ≤ n → 1 ≤ j → j ≤ n + 1 → (i - 1) * (n + 1) + (j - 1) < n * (n + 1)

@@ -2,7 +2,7 @@
 use Prim.Native.Nat.{ℕ, _+_, _-_, _*_, _^_, _≤_}
 use mathlib.Core.Path.{_≡_}
 use mathlib.Core.List.{List}
-use lib.ListN.{getD, length}
+use lib.ListN.{getD}
 use lib.IntN.{pos}
 use Rattle.balance.specs.declared.range.Range.{Range}
 use Rattle.balance.specs.Ranges.{only}

@@ -1,7 +1,7 @@
 -- Drums worked through by hand, as one table about the definitions.
 use Prim.Native.Nat.{ℕ}
 use mathlib.Core.Path.{_≡_}
-use mathlib.Core.Bool.{Bool, true, false}
+use mathlib.Core.Bool.{true, false}
 use mathlib.Core.List.{List, [], _∷_}
 use lib.IntN.{ℤ, pos, negsuc}
 use Rattle.std.specs.declared.result.Result.the-variants.{Ok, Err}
@@ -12,7 +12,7 @@ use Rattle.balance.specs.Meanings.{Meaning}
 use Rattle.balance.specs.Tables.{table}
 use Rattle.balance.specs.Points.{possible-answer}
 use Rattle.roast.specs.declared.call.Answer.the-variants.{Changed, Refused}
-use Rattle.roast.specs.Certificates.{v, first-box, opening}
+use Rattle.roast.specs.Certificates.{v, opening}
 use Rattle.roast.specs.Narrowing.{Box, at-rest}
 use Rattle.roast.specs.Machine.{row-step-at, reading-at, tells, outcome}
 

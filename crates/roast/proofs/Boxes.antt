@@ -3,18 +3,17 @@ use Prim.Native.Nat.{ℕ, zero, suc, _-_, _^_, _≤_}
 use native.Mathlib.Omega.{arith}
 use mathlib.Core.Path.{_≡_, refl, sym, _∙_, ap, subst, ap₂}
 use mathlib.Core.Bool.{Bool, true, false, cond}
-use mathlib.Core.List.{List, [], _∷_}
+use mathlib.Core.List.{[], _∷_}
 use lib.Dec.{eqb}
 use lib.ListN.{length, getD, set}
 use lib.IntN.{pos}
-use lib.Signed.{_≤ℤ_}
 use borrow.Author.Differences.{ints}
 use Rattle.std.specs.declared.option.Option.the-variants.{Some, None}
 use Rattle.std.proofs.shelf.Signed.{clamps}
 use Rattle.std.proofs.shelf.Lists.{length-set, ext-getD}
 use Rattle.balance.specs.declared.range.Range.{Range}
-use Rattle.balance.specs.Ranges.{range, only, Ordered, _⊆_, minus, times, total}
-use Rattle.balance.specs.Meanings.{Place, told, refused, Meaning, IsNode, Same, Within, Lawful, range-at, coefficient-range, right-side-range}
+use Rattle.balance.specs.Ranges.{range, only, Ordered, _⊆_, times, total}
+use Rattle.balance.specs.Meanings.{Meaning, IsNode, Same, Within, Lawful, range-at, coefficient-range, right-side-range}
 use Rattle.balance.specs.Places.{every}
 use Rattle.balance.specs.Rows.{at}
 use Rattle.balance.proofs.Points.{place-ordered}

@@ -1,5 +1,5 @@
 -- The test of a certificate as the code makes it.
-use Prim.Native.Nat.{ℕ, zero, suc, _+_, _-_, _*_, _^_, _≤_, _<_, max}
+use Prim.Native.Nat.{ℕ, suc, _+_, _-_, _*_, _^_, _≤_, _<_}
 use native.Mathlib.Omega.{arith}
 use native.Mathlib.Nat.{mul-le-mul}
 use native.Mathlib.Numerals.{add-one}
@@ -26,7 +26,7 @@ use Rattle.balance.specs.Points.{between}
 use Rattle.balance.proofs.Ranges.{sizes-within}
 use Rattle.balance.proofs.Searches.{none-of}
 use Rattle.roast.proofs.Sums.{largest-same}
-use Rattle.roast.specs.Certificates.{magnitude, mignitude, number, u, sum-without, others, v, k, largest, rounded-up, Holding, Sides, Margins, listed, first-range, number-refusal, certificate-refusal, dominance-refusal, wide-refusal}
+use Rattle.roast.specs.Certificates.{magnitude, mignitude, number, u, others, v, k, largest, rounded-up, Holding, Sides, Margins, listed, number-refusal, certificate-refusal, dominance-refusal, wide-refusal}
 
 -- ---- the numbers
 

@@ -1,11 +1,9 @@
 -- A certificate that passes makes every run of calls dependable.
-use mathlib.Core.Path.{_≡_, sym, subst, _∙_}
+use mathlib.Core.Path.{_≡_, subst}
 use mathlib.Core.List.{List}
-use lib.ListN.{length}
 use lib.IntN.{ℤ}
 use Rattle.balance.specs.Meanings.{Meaning, Same, Lawful}
 use Rattle.roast.specs.Certificates.{first-box, Passes}
-use Rattle.roast.specs.Narrowing.{Box}
 use Rattle.roast.specs.Machine.{Ask, after}
 use Rattle.roast.specs.Runs.{accepted, SameSet, Rests, NoConflict, accepts, last-box, EndsAtRest, MeetsNoConflict, Dependable}
 use Rattle.roast.proofs.Boxes.{same-back, same-lawful}

@@ -1,8 +1,8 @@
 -- What a certificate that passes says: the first box holds every solution, and no member system has two.
-use Prim.Native.Nat.{ℕ, zero, suc, _+_, _*_, _^_, _≤_, _<_}
+use Prim.Native.Nat.{ℕ, zero, suc, _+_, _*_, _≤_, _<_}
 use native.Mathlib.Omega.{arith}
 use native.Mathlib.Nat.{mul-le-mul-left, le-of-mul-le-mul-right}
-use mathlib.Core.Path.{_≡_, refl, ap, ap₂, sym, _∙_}
+use mathlib.Core.Path.{_≡_, ap, ap₂, _∙_}
 use mathlib.Core.List.{List, [], _∷_, _++_}
 use lib.ListN.{length, getD}
 use lib.IntN.{ℤ, pos, negℤ, natAbs, _-ℤ_, _*ℤ_}
@@ -14,11 +14,11 @@ use Rattle.balance.specs.Meanings.{Meaning, IsNode, Same, Lawful, range-at, coe
 use Rattle.balance.specs.Members.{Fraction, Member, Point, component, sum, Solves, SamePoint, _⊗_}
 use Rattle.balance.proofs.Integers.{product-size}
 use Rattle.balance.proofs.Points.{picked-in}
-use Rattle.roast.specs.Certificates.{magnitude, mignitude, number, u, sum-without, largest, others, v, rounded-up, k, LeastBound, listed, first-range, first-box, Passes, Opens}
+use Rattle.roast.specs.Certificates.{magnitude, mignitude, u, sum-without, largest, others, v, rounded-up, k, LeastBound, listed, first-range, first-box, Passes}
 use Rattle.roast.specs.Narrowing.{Box}
 use Rattle.roast.specs.Runs.{Holds}
 use Rattle.roast.proofs.Boxes.{nothing, Tidy}
-use Rattle.roast.proofs.Sums.{In, largest-above, largest-below, largest-same, sum-same, rounded-up-enough, rounded-up-least, length-listed, getD-listed, listed-same, Greatest, some-greatest, outweighs}
+use Rattle.roast.proofs.Sums.{largest-above, largest-below, largest-same, sum-same, rounded-up-enough, rounded-up-least, length-listed, getD-listed, listed-same, Greatest, some-greatest, outweighs}
 use Rattle.roast.proofs.Sizes.{size, at-most-magnitude, at-least-mignitude, alone, _⊖_, difference, sum-⊖, no-difference, size-≈, size-⊗}
 
 -- ---- k_i

@@ -4,10 +4,9 @@ use native.Mathlib.Omega.{arith}
 use native.Mathlib.Nat.{mul-le-mul-right, le-div-iff-mul-le, div-lt-iff-lt-mul, le-of-mul-le-mul-right, div-le-self}
 use mathlib.Core.Path.{_≡_, ap, _∙_, subst₂}
 use mathlib.Core.Logic.{_⊎_, inl, inr, _↔_}
-use lib.IntN.{ℤ, pos, negsuc, negℤ, natAbs, _+ℤ_, _-ℤ_, _*ℤ_, *ℤ-comm}
+use lib.IntN.{ℤ, pos, negsuc, negℤ, natAbs, _*ℤ_, *ℤ-comm}
 use lib.Signed.{_≤ℤ_, _<ℤ_}
 use borrow.Author.Differences.{up, down, ints}
-use Rattle.balance.proofs.Integers.{sum-times}
 use Rattle.std.specs.Numbers.{divEuclid}
 use Rattle.roast.specs.Rounding.{floor, ceiling}
 

@@ -1,7 +1,7 @@
 -- An opening succeeds exactly when every place answers, the certificate passes and the first box keeps its limit.
 use Prim.Native.Nat.{ℕ, zero, suc, _^_, _≤_}
 use native.Mathlib.Omega.{arith}
-use mathlib.Core.Path.{_≡_, refl, sym, ap, _∙_}
+use mathlib.Core.Path.{_≡_, refl}
 use mathlib.Core.Bool.{Bool, true, false, cond}
 use mathlib.Core.List.{List}
 use lib.Dec.{eqb, leb}
@@ -14,14 +14,13 @@ use Rattle.std.specs.declared.option.Option.the-variants.{Some, None}
 use Rattle.std.specs.declared.result.Result.{Result}
 use Rattle.std.specs.declared.result.Result.the-variants.{Ok, Err}
 use Rattle.std.proofs.shelf.Tests.{eq-eqb, le-leb, leb-true}
-use Rattle.balance.specs.declared.range.Range.{Range}
 use Rattle.balance.specs.declared.refusal.Refusal.{Refusal}
-use Rattle.balance.specs.declared.refusal.Refusal.the-variants.{Dominance, Wide, Certificate}
-use Rattle.balance.specs.Meanings.{Place, told, refused, Meaning, IsNode, Told, EveryPlaceAnswers}
-use Rattle.balance.specs.Places.{or-else, first, unless-refused, refusal-at, row-refusal, first-refusal}
+use Rattle.balance.specs.declared.refusal.Refusal.the-variants.{Dominance, Wide}
+use Rattle.balance.specs.Meanings.{Place, told, refused, Meaning, Told}
+use Rattle.balance.specs.Places.{first, unless-refused, refusal-at, row-refusal, first-refusal}
 use Rattle.balance.specs.Points.{between}
 use Rattle.balance.proofs.Searches.{none-of, all-answer}
-use Rattle.roast.specs.Certificates.{number, v, k, Passes, first-box, number-refusal, certificate-refusal, dominance-refusal, wide-refusal, opening, Opens, OpensExactly}
+use Rattle.roast.specs.Certificates.{number, v, k, first-box, number-refusal, certificate-refusal, dominance-refusal, wide-refusal, opening, Opens, OpensExactly}
 use Rattle.roast.specs.Narrowing.{Box}
 use Rattle.roast.specs.Answers.{opened, opened-box}
 use Rattle.roast.proofs.Certified.{certified}

@@ -1,7 +1,7 @@
 -- A list of calls, one after another.
 use Prim.Native.Nat.{ℕ, _+_, _≤_, _<_}
 use native.Mathlib.Omega.{arith}
-use mathlib.Core.Path.{_≡_, refl, sym, ap, _∙_}
+use mathlib.Core.Path.{_≡_, sym, ap, _∙_}
 use mathlib.Core.List.{List, [], _∷_, _++_, map}
 use lib.ListN.{length, getD, set, take, drop}
 use Rattle.std.proofs.shelf.Lists.{take-more-set, drop-set-lt, drop-more, take-all, drop-all, map-push, append-assoc, append-nil}
@@ -9,7 +9,7 @@ use Rattle.roast.specs.declared.call.Entry.{Entry}
 use Rattle.std.specs.declared.option.Option.the-variants.{Some}
 use Rattle.balance.specs.Meanings.{Meaning}
 use Rattle.roast.specs.Narrowing.{Box}
-use Rattle.roast.specs.Machine.{Ask, outcome, after}
+use Rattle.roast.specs.Machine.{outcome, after}
 use Rattle.roast.specs.Replays.{ask, shown, answered, replayed}
 
 module _ (m : Meaning) (x y : Box) (xs : List Entry) (i : ℕ) (d e′ : Entry) (l : i < length xs) (box : y ≡ outcome m x (ask (getD xs i d)) .box) where

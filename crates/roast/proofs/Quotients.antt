@@ -17,7 +17,7 @@ use Rattle.balance.specs.declared.range.Range.{Range}
 use Rattle.balance.specs.Ranges.{range, Ordered, Inside, _⊆_}
 use Rattle.balance.proofs.Integers.{between-low, between-high}
 use Rattle.roast.specs.Rounding.{holds-zero, floor, ceiling, negated, quotient-above, quotient, AtMost, AtLeast, RoundedOutward, shared, CommonPart}
-use Rattle.roast.proofs.Numbers.{≤-trans, either-sign, falls-left, times-neg, neg-times, grows, grows-left, cancels, floor-is, ceiling-is}
+use Rattle.roast.proofs.Numbers.{≤-trans, either-sign, falls-left, times-neg, neg-times, grows, grows-left, cancels, floor-is}
 
 -- ---- by a range above 0
 

@@ -4,18 +4,16 @@ use native.Mathlib.Omega.{arith}
 use native.Mathlib.Decide.{ℕ-discrete}
 use mathlib.Core.Path.{_≡_, refl, sym, _∙_, ap, ap₂, subst}
 use mathlib.Core.Bool.{Bool, true, false, cond}
-use mathlib.Core.List.{List, [], _∷_, map}
+use mathlib.Core.List.{[], _∷_, map}
 use lib.Dec.{eqb}
 use lib.ListN.{length, getD}
-use lib.IntN.{ℤ, pos, negℤ}
+use lib.IntN.{ℤ}
 use lib.Signed.{_≤ℤ_, leZ}
 use borrow.Author.Differences.{ints}
-use Rattle.std.specs.declared.option.Option.{Option}
 use Rattle.std.specs.declared.option.Option.the-variants.{Some, None}
-use Rattle.std.specs.declared.result.Result.{Result}
-use Rattle.std.proofs.shelf.Tests.{eq-eqb, ne-eqb, eqb-true}
+use Rattle.std.proofs.shelf.Tests.{eq-eqb, ne-eqb}
 use Rattle.balance.specs.declared.range.Range.{Range}
-use Rattle.balance.specs.Ranges.{range, only, Ordered, Between, plus, minus, times, total}
+use Rattle.balance.specs.Ranges.{Ordered, Between, plus, minus, times, total}
 use Rattle.balance.specs.Cells.{range-ends}
 use Rattle.balance.specs.Meanings.{Place, told, refused, Meaning, IsNode, answer, coefficient-answer, right-side-answer, range-at, coefficient-range, right-side-range}
 use Rattle.balance.specs.Places.{every}

@@ -20,7 +20,7 @@ use Rattle.balance.specs.Meanings.{Meaning, is-node}
 use Rattle.balance.specs.Rows.{at}
 use Rattle.roast.specs.declared.call.Answer.the-variants.{Refused}
 use Rattle.roast.specs.Rounding.{shared}
-use Rattle.roast.specs.Narrowing.{Box, Step, took, conflict, take, row-step, same-range, rests, Sweep, swept, stopped, sweep, sweep-on, sweep-next}
+use Rattle.roast.specs.Narrowing.{Box, Step, took, conflict, take, row-step, same-range, rests, swept, stopped, sweep, sweep-on, sweep-next}
 use Rattle.roast.specs.Machine.{tells, step-outcome, sweep-outcome, reading-outcome}
 use Rattle.roast.specs.Answers.{changed, step-result, step-box}
 

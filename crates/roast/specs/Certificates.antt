@@ -1,7 +1,7 @@
 -- The test of a certificate, and the first box.
 use Prim.Native.Nat.{ℕ, zero, suc, _+_, _-_, _*_, _/_, _^_, _≤_, max}
 use mathlib.Core.Path.{_≡_}
-use mathlib.Core.Bool.{Bool, true, false, cond}
+use mathlib.Core.Bool.{cond}
 use mathlib.Core.List.{List, [], _∷_, _++_}
 use lib.Dec.{eqb, leb}
 use lib.ListN.{length, getD}
@@ -14,7 +14,7 @@ use Rattle.std.specs.declared.result.Result.the-variants.{Ok, Err}
 use Rattle.balance.specs.declared.range.Range.{Range}
 use Rattle.balance.specs.declared.refusal.Refusal.{Refusal}
 use Rattle.balance.specs.declared.refusal.Refusal.the-variants.{Certificate, Dominance, Wide}
-use Rattle.balance.specs.Ranges.{range, Inside}
+use Rattle.balance.specs.Ranges.{range}
 use Rattle.balance.specs.Meanings.{Meaning, IsNode, EveryPlaceAnswers, coefficient-range, right-side-range}
 use Rattle.balance.specs.Places.{first, unless-refused, first-refusal}
 use Rattle.balance.specs.Points.{between}

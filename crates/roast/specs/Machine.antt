@@ -1,15 +1,11 @@
 -- The reference machine: what each call answers, and which box and records it leaves. It knows the meaning of the system alone.
 use Prim.Native.Nat.{ℕ}
-use mathlib.Core.Bool.{Bool, true, false, cond}
+use mathlib.Core.Bool.{cond}
 use mathlib.Core.List.{List, [], _∷_, _++_}
 use lib.ListN.{length}
 use lib.IntN.{ℤ}
 use lib.Signed.{ltZ}
 use Rattle.std.specs.Of.Vec.{vec-items}
-use Rattle.std.specs.declared.option.Option.{Option}
-use Rattle.std.specs.declared.option.Option.the-variants.{Some, None}
-use Rattle.balance.specs.declared.range.Range.{Range}
-use Rattle.balance.specs.declared.refusal.Refusal.{Refusal}
 use Rattle.balance.specs.declared.refusal.Refusal.the-variants.{Node, Crossed, Conflict}
 use Rattle.balance.specs.Ranges.{range}
 use Rattle.balance.specs.Refusals.{number}

@@ -2,14 +2,14 @@
 use Prim.Native.Nat.{ℕ, zero, suc, _+_, _-_}
 use mathlib.Core.Bool.{Bool, true, false, cond, not}
 use mathlib.Core.List.{List}
-use lib.Dec.{eqb, leb}
+use lib.Dec.{eqb}
 use lib.ListN.{length, set}
 use lib.IntN.{ℤ, pos}
 use lib.Signed.{leZ}
 use Rattle.std.specs.declared.option.Option.{Option}
 use Rattle.std.specs.declared.option.Option.the-variants.{Some, None}
 use Rattle.balance.specs.declared.range.Range.{Range}
-use Rattle.balance.specs.Ranges.{range, only, minus, times, total}
+use Rattle.balance.specs.Ranges.{only, minus, times, total}
 use Rattle.balance.specs.Meanings.{Place, told, refused, Meaning, coefficient-range, right-side-range}
 use Rattle.balance.specs.Places.{every}
 use Rattle.balance.specs.Rows.{at}

@@ -212,12 +212,8 @@ fn fill<S: System>(
 {
     let mut bounds = Bounds::none();
     for i in 0..certificate.len() {
-        let end = first_end(
-            certificate[i].unsigned_abs(),
-            sides,
-            margins,
-            certificate.len(),
-        );
+        let number = certificate[i].unsigned_abs();
+        let end = first_end(number, sides, margins, certificate.len());
         if END_LIMIT < end {
             return Err(Refusal::Wide { place: i + 1 });
         }

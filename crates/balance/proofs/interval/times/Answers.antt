@@ -1,7 +1,5 @@
 use borrow.Author.Needs.{needs}
 use native.Mathlib.Omega.{arith}
-use mir.Syntax.{w64}
-use mir.Val.{SFits}
 use Rattle.std.proofs.shelf.Signed.{toZ-ofZ}
 use Rattle.balance.proofs.Ranges.{products-fit, product-fits, times-extends}
 use Rattle.balance.proofs.interval.times.Needs as need

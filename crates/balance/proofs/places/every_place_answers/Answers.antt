@@ -1,11 +1,8 @@
 use Prim.Native.Nat.{_+_}
 use native.Mathlib.Omega.{arith}
 use mathlib.Core.Path.{_≡_, refl, _∙_, ap}
-use lib.IntN.{ℤ}
-use Rattle.std.specs.declared.option.Option.{Option}
 use Rattle.std.specs.declared.option.Option.the-variants.{None, Some}
-use Rattle.balance.specs.declared.refusal.Refusal.{Refusal}
-use Rattle.balance.specs.Places.{first, refusal-at, row-refusal, first-refusal}
+use Rattle.balance.specs.Places.{first, refusal-at, row-refusal}
 use Rattle.balance.proofs.Searches.{first-more, first-stops, column-answers, column-refuses, side-answers, side-refuses, stops-at-column, side-reached, outcome}
 use Rattle.balance.proofs.places.every_place_answers.Needs as need
 

@@ -3,7 +3,7 @@ use Prim.Native.Nat.{_+_}
 use native.Mathlib.Omega.{arith}
 use mathlib.Core.Path.{_≡_, refl, sym, ap, _∙_}
 use lib.IntN.{pos}
-use lib.ListN.{length, getD}
+use lib.ListN.{getD}
 use mir.Syntax.{w64}
 use mir.Val.{SFits, toZ, ofZ}
 use Rattle.std.specs.declared.option.Option.{Option}
@@ -13,7 +13,7 @@ use Rattle.std.proofs.shelf.Signed.{toZ-ofZ}
 use Rattle.balance.specs.declared.refusal.Refusal.{Refusal}
 use Rattle.balance.specs.declared.refusal.Refusal.the-variants.{Point}
 use Rattle.balance.specs.Places.{first, unless-refused}
-use Rattle.balance.specs.Points.{numerator-refusal, point-refusal}
+use Rattle.balance.specs.Points.{numerator-refusal}
 use Rattle.balance.proofs.Searches.{first-more, first-stops}
 use Rattle.balance.proofs.PointRows.{numerator-between, denominator-between, numerator-passes, numerator-fails, point-refusal-is}
 use Rattle.balance.proofs.point.check_point.Needs as need

@@ -1,11 +1,9 @@
-use mathlib.Core.Path.{_≡_, sym, ap, subst, _∙_}
+use mathlib.Core.Path.{sym, ap, subst, _∙_}
 use mathlib.Core.Bool.{Bool}
 use mir.Syntax.{w64}
 use mir.Val.{toZ, ofZ}
-use Rattle.std.specs.declared.result.Result.{Result}
 use Rattle.std.specs.declared.result.Result.the-variants.{Ok}
 use Rattle.std.proofs.shelf.Signed.{toZ-ofZ}
-use Rattle.balance.specs.declared.refusal.Refusal.{Refusal}
 use Rattle.balance.specs.Places.{every}
 use Rattle.balance.specs.Points.{numerator, point-refusal, fits, TellsPossible}
 use Rattle.balance.proofs.Searches.{all-answer}

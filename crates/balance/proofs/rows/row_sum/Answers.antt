@@ -1,15 +1,12 @@
-use Prim.Native.Nat.{_+_, _*_, _^_, _<_}
+use Prim.Native.Nat.{_+_, _<_}
 use native.Mathlib.Omega.{arith}
-use mathlib.Core.Path.{_≡_, refl, sym, ap, subst, _∙_}
-use mathlib.Core.List.{List, map}
+use mathlib.Core.Path.{_≡_, refl, sym, ap, _∙_}
+use mathlib.Core.List.{map}
 use lib.ListN.{length}
 use borrow.Author.Differences.{ints}
-use Rattle.std.specs.declared.option.Option.{Option}
 use Rattle.std.specs.declared.option.Option.the-variants.{Some, None}
 use Rattle.std.proofs.shelf.Lists.{length-map}
 use Rattle.balance.specs.declared.range.Range.{Range}
-use Rattle.balance.specs.Meanings.{Meaning}
-use Rattle.balance.specs.Ranges.{Between, plus}
 use Rattle.balance.specs.Rows.{term, terms, sum-of}
 use Rattle.balance.proofs.RowSums.{sum-of-more, sum-of-stops, at-cell, row-sum-is, row-sum-none}
 use Rattle.balance.proofs.rows.row_sum.Needs as need

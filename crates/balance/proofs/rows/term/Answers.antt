@@ -1,6 +1,6 @@
 use Prim.Native.Nat.{_^_}
 use native.Mathlib.Omega.{arith}
-use mathlib.Core.Path.{_≡_, sym, subst}
+use mathlib.Core.Path.{sym, subst}
 use Rattle.balance.specs.Ranges.{Between, times}
 use Rattle.balance.proofs.Ranges.{times-between-bounds, narrow-fits}
 use Rattle.balance.proofs.RowSums.{small-between, term-is}

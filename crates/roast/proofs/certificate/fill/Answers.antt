@@ -1,4 +1,4 @@
-use Prim.Native.Nat.{_+_, _^_, _≤_, _<_}
+use Prim.Native.Nat.{_+_, _^_, _≤_}
 use native.Mathlib.Omega.{arith}
 use mathlib.Core.Path.{_≡_, refl, sym, ap, subst, _∙_}
 use mathlib.Core.List.{List, [], _∷_, _++_}
@@ -13,8 +13,7 @@ use Rattle.balance.specs.declared.refusal.Refusal.the-variants.{Wide}
 use Rattle.balance.specs.Ranges.{range}
 use Rattle.balance.specs.Places.{first}
 use Rattle.balance.proofs.Searches.{first-more, first-stops}
-use Rattle.roast.specs.Certificates.{u, k, listed, first-range, wide-refusal}
-use Rattle.roast.specs.Boxed.{box}
+use Rattle.roast.specs.Certificates.{k, listed, first-range, wide-refusal}
 use Rattle.roast.proofs.Certified.{number-at, certified, number-within, entries-within, end-is, wide-fails, wide-passes, listed-more}
 use Rattle.roast.proofs.certificate.fill.Needs as need
 
@@ -34,7 +33,7 @@ first-end-end-requires g c κs =
     let b = number-within _ us (c .pre .0) i (omega arith) in
     let a = c .told-sides in
     let d = c .told-margins in (
-      (subst (λ z. z ≤ 2 ^ 20) (sym (c .unsigned-abs .ensures .value ∙ ap natAbs (toZ-ofZ w64 (getD us i (pos 0)) f))) b, (omega arith, omega arith)),
+      (subst (λ z. z ≤ 2 ^ 20) (sym (c .unsigned-abs-number .ensures .value ∙ ap natAbs (toZ-ofZ w64 (getD us i (pos 0)) f))) b, (omega arith, omega arith)),
       entries-within m us (c .args .sides .now) (c .args .margins .now) (length us) lawful n (c .pre .1 .0) (c .pre .1 .1),
     )
 
@@ -45,8 +44,8 @@ returns-then-end-gt-END-LIMIT g c =
     let i = c .loop-i .i in
     let n = certified _ us (c .pre .0) .count in
     let f : SFits w64 (getD us i (pos 0)) = search needs in
-    let number = c .unsigned-abs .ensures .value ∙ ap natAbs (toZ-ofZ w64 (getD us i (pos 0)) f ∙ sym (number-at us i)) in
-    let e = c .first-end-end .ensures ∙ end-is m us (c .args .sides .now) (c .args .margins .now) i (length us) (c .unsigned-abs .result) n (c .pre .1 .0) (c .pre .1 .1) number in
+    let number = c .unsigned-abs-number .ensures .value ∙ ap natAbs (toZ-ofZ w64 (getD us i (pos 0)) f ∙ sym (number-at us i)) in
+    let e = c .first-end-end .ensures ∙ end-is m us (c .args .sides .now) (c .args .margins .now) i (length us) (c .unsigned-abs-number .result) n (c .pre .1 .0) (c .pre .1 .1) number in
     record { boxed = tt; first = first-stops (wide-refusal m us) (Wide (i + 1)) i (m .size) (c .loop-i .inv .2) (wide-fails m us i (c .first-end-end .result) e (c .if-end-gt-END-LIMIT .taken)) (omega arith) }
 
 pub push-requires : need.push-requires
@@ -63,8 +62,8 @@ loop-i-again g c =
     let i = c .loop-i .i in
     let n = certified _ us (c .pre .0) .count in
     let f : SFits w64 (getD us i (pos 0)) = search needs in
-    let number = c .unsigned-abs .ensures .value ∙ ap natAbs (toZ-ofZ w64 (getD us i (pos 0)) f ∙ sym (number-at us i)) in
-    let e = c .first-end-end .ensures ∙ end-is m us (c .args .sides .now) (c .args .margins .now) i (length us) (c .unsigned-abs .result) n (c .pre .1 .0) (c .pre .1 .1) number in
+    let number = c .unsigned-abs-number .ensures .value ∙ ap natAbs (toZ-ofZ w64 (getD us i (pos 0)) f ∙ sym (number-at us i)) in
+    let e = c .first-end-end .ensures ∙ end-is m us (c .args .sides .now) (c .args .margins .now) i (length us) (c .unsigned-abs-number .result) n (c .pre .1 .0) (c .pre .1 .1) number in
     let r : c .first-range .result ≡ first-range m us (i + 1) = c .first-range .ensures .is ∙ ap (λ x. range (negℤ (pos x)) (pos x)) e in (
       c .push .ensures .is ∙ ap (λ (xs : List Range). xs ++ c .first-range .result ∷ []) (c .loop-i .inv .0) ∙ listed-more (first-range m us) i (c .first-range .result) r,
       c .push .ensures .count ∙ ap (λ n. n + 1) (c .loop-i .inv .1),

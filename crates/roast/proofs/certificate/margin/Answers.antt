@@ -1,6 +1,6 @@
 use Prim.Native.Nat.{_-_, _*_, _^_, _≤_}
 use native.Mathlib.Omega.{arith}
-use mathlib.Core.Path.{_≡_, sym, ap, subst, _∙_}
+use mathlib.Core.Path.{_≡_, sym, subst, _∙_}
 use lib.IntN.{pos, natAbs, _-ℤ_}
 use lib.ListN.{getD}
 use mir.Syntax.{w64}
@@ -8,7 +8,7 @@ use mir.Val.{SFits, toZ, ofZ}
 use borrow.Author.Needs.{needs}
 use Rattle.std.proofs.shelf.Signed.{ints, toZ-ofZ}
 use Rattle.balance.specs.Meanings.{coefficient-range}
-use Rattle.roast.specs.Certificates.{mignitude, u, others, v}
+use Rattle.roast.specs.Certificates.{mignitude, u, others}
 use Rattle.roast.proofs.Certified.{certified, number-within}
 use Rattle.roast.proofs.certificate.margin.Needs as need
 

@@ -1,16 +1,15 @@
 use Prim.Native.Nat.{_+_, _*_, _^_, _≤_, _<_}
 use native.Mathlib.Omega.{arith}
-use mathlib.Core.Path.{_≡_, sym, ap, subst, _∙_}
+use mathlib.Core.Path.{sym, ap, subst, _∙_}
 use mathlib.Core.Bool.{cond}
 use lib.Dec.{eqb}
 use lib.IntN.{pos, natAbs}
-use lib.ListN.{length, getD}
+use lib.ListN.{getD}
 use mir.Syntax.{w64}
-use mir.Val.{SFits, toZ, ofZ}
+use mir.Val.{SFits}
 use borrow.Author.Needs.{needs}
 use Rattle.std.proofs.shelf.Signed.{toZ-ofZ}
-use Rattle.balance.specs.declared.range.Range.{Range}
-use Rattle.roast.specs.Certificates.{magnitude, others}
+use Rattle.roast.specs.Certificates.{magnitude}
 use Rattle.roast.proofs.Certified.{certified, number-within, others-more}
 use Rattle.roast.proofs.certificate.others.Needs as need
 

@@ -1,10 +1,10 @@
-use Prim.Native.Nat.{_+_, _<_}
+use Prim.Native.Nat.{_<_}
 use native.Mathlib.Omega.{arith}
-use mathlib.Core.Path.{_≡_, refl, ap, subst, _∙_}
+use mathlib.Core.Path.{refl, ap, _∙_}
 use lib.ListN.{length}
 use Rattle.std.proofs.shelf.Lists.{length-set}
 use Rattle.balance.specs.Meanings.{right-side-range}
-use Rattle.roast.specs.Certificates.{magnitude, Holding}
+use Rattle.roast.specs.Certificates.{magnitude}
 use Rattle.roast.proofs.Certified.{holding-more}
 use Rattle.roast.proofs.certificate.sides.Needs as need
 

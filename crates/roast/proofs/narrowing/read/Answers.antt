@@ -1,6 +1,6 @@
 use Prim.Native.Nat.{_^_}
 use native.Mathlib.Omega.{arith}
-use mathlib.Core.Path.{_≡_, _∙_, sym, ap, subst, refl}
+use mathlib.Core.Path.{_≡_, _∙_, sym, subst, refl}
 use mathlib.Core.Bool.{true, false}
 use lib.ListN.{length}
 use lib.Signed.{ltZ}
@@ -11,7 +11,7 @@ use Rattle.balance.specs.Meanings.{is-node}
 use Rattle.roast.specs.Rounding.{shared}
 use Rattle.std.specs.Options.{Cases}
 use Rattle.std.specs.declared.option.Option.{Option}
-use Rattle.std.proofs.shelf.Signed.{ints, toZ-ofZ}
+use Rattle.std.proofs.shelf.Signed.{ints}
 use Rattle.balance.specs.declared.range.Range.{Range}
 use Rattle.roast.specs.Boxed.{box}
 use Rattle.roast.proofs.Narrow.{shared-narrow}

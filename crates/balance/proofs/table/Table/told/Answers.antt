@@ -1,6 +1,6 @@
 use Prim.Native.Nat.{_+_, _-_, _*_, _<_}
 use native.Mathlib.Omega.{arith}
-use mathlib.Core.Path.{_≡_, sym, _∙_, ap}
+use mathlib.Core.Path.{sym, _∙_, ap}
 use lib.IntN.{pos}
 use lib.ListN.{length}
 use Rattle.std.proofs.shelf.Lists.{getD-map}

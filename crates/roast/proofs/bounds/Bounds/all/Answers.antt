@@ -1,8 +1,7 @@
 use Prim.Native.Nat.{_-_}
 use native.Mathlib.Omega.{arith}
-use mathlib.Core.Path.{_≡_, sym, ap, subst}
+use mathlib.Core.Path.{_≡_, ap}
 use lib.ListN.{take}
-use Rattle.balance.specs.declared.range.Range.{Range}
 use Rattle.roast.proofs.Narrow.{narrow-take}
 use Rattle.roast.proofs.bounds.Bounds.all.Needs as need
 

@@ -1,4 +1,4 @@
-use mathlib.Core.Path.{_≡_, refl, sym, ap, subst}
+use mathlib.Core.Path.{refl, sym, ap, subst}
 use Rattle.roast.specs.Certificates.{OpensExactly}
 use Rattle.roast.specs.Answers.{opened, opened-box}
 use Rattle.roast.specs.Boxed.{box}

@@ -1,5 +1,5 @@
-use mathlib.Core.Path.{_≡_, refl, sym, ap, _∙_}
-use mathlib.Core.List.{List, map}
+use mathlib.Core.Path.{refl, _∙_}
+use mathlib.Core.List.{map}
 use Rattle.roast.specs.Machine.{after}
 use Rattle.roast.specs.Replays.{ask, replayed}
 use Rattle.roast.specs.Boxed.{box}
