@@ -18,7 +18,7 @@ pub struct Bounds {
 }
 
 impl Bounds {
-    pub fn none() -> Bounds
+    pub(crate) fn none() -> Bounds
         ensures { λ r. ⌜ r .count ≡ 0 ⌝ }
     {
         Bounds {
@@ -27,7 +27,7 @@ impl Bounds {
         }
     }
 
-    pub fn count(&self) -> usize
+    pub(crate) fn count(&self) -> usize
         ensures is { λ r. ⌜ r ≡ now (self .entry) .count ⌝ }
         ensures few { λ r. ⌜ r ≤ 32 ⌝ }
         ensures length { λ r. ⌜ r ≡ length (take (now (self .entry) .count) (now (self .entry) .ranges)) ⌝ }
@@ -35,7 +35,7 @@ impl Bounds {
         self.count
     }
 
-    pub fn at(&self, node: usize) -> Range
+    pub(crate) fn at(&self, node: usize) -> Range
         requires { ⌜ 1 ≤ node ⌝ ∗ ⌜ node ≤ now self .count ⌝ }
         ensures is { λ r. ⌜ r ≡ getD (take (now (self .entry) .count) (now (self .entry) .ranges)) (node - 1) (only (pos 0)) ⌝ }
         ensures narrow { λ r. ⌜ Between (2 ^ 30) r ⌝ }
@@ -44,14 +44,14 @@ impl Bounds {
     }
 
     // All ranges, node 1 first.
-    pub fn all(&self) -> &[Range]
+    pub(crate) fn all(&self) -> &[Range]
         ensures is { λ r. ⌜ now r ≡ take (now (self .entry) .count) (now (self .entry) .ranges) ⌝ }
         ensures narrow { λ r. ⌜ ((k : ℕ) → Between (2 ^ 30) (getD (now r) k (only (pos 0)))) ⌝ }
     {
         &self.ranges[0..self.count]
     }
 
-    pub fn put(&mut self, node: usize, range: Range)
+    pub(crate) fn put(&mut self, node: usize, range: Range)
         requires { ⌜ 1 ≤ node ⌝ ∗ ⌜ node ≤ now self .count ⌝ ∗ ⌜ Between (2 ^ 30) range ⌝ }
         ensures count { λ _. ⌜ now (self .exit) .count ≡ now (self .entry) .count ⌝ }
         ensures is { λ _. ⌜ take (now (self .exit) .count) (now (self .exit) .ranges) ≡ set (take (now (self .entry) .count) (now (self .entry) .ranges)) (node - 1) range ⌝ }
@@ -60,7 +60,7 @@ impl Bounds {
     }
 
     // One node more.
-    pub fn push(&mut self, range: Range)
+    pub(crate) fn push(&mut self, range: Range)
         requires { ⌜ now self .count < 32 ⌝ ∗ ⌜ Between (2 ^ 30) range ⌝ }
         ensures count { λ _. ⌜ now (self .exit) .count ≡ now (self .entry) .count + 1 ⌝ }
         ensures is { λ _. ⌜ take (now (self .exit) .count) (now (self .exit) .ranges) ≡ take (now (self .entry) .count) (now (self .entry) .ranges) ++ range ∷ [] ⌝ }

@@ -36,7 +36,7 @@ fn number_allowed(number: i64) -> bool
 }
 
 // Refuses a certificate of another length, or with a number that is not allowed.
-pub fn check_certificate(size: usize, certificate: &[i64]) -> Result<(), Refusal>
+pub(crate) fn check_certificate(size: usize, certificate: &[i64]) -> Result<(), Refusal>
     ensures { λ r. ⌜ r ≡ unless-refused (certificate-refusal size (now (certificate .entry))) (Ok tt) ⌝ }
 {
     if certificate.len() != size {
@@ -223,7 +223,7 @@ fn fill<S: System>(
 }
 
 // The bounds that an opening with this certificate gives.
-pub fn first_bounds<S: System>(system: &S, certificate: &[i64]) -> Result<Bounds, Refusal>
+pub(crate) fn first_bounds<S: System>(system: &S, certificate: &[i64]) -> Result<Bounds, Refusal>
     ensures { λ r. ⌜ boxed r ≡ opening (meaning (now (system .entry))) (now (certificate .entry)) ⌝ }
 {
     every_place_answers(system)?;

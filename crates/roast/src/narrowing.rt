@@ -23,7 +23,7 @@ use balance::rows::row_sum;
 use balance::system::System;
 
 // What a row leaves of its node's range.
-pub fn narrowed<S: System>(system: &S, bounds: &Bounds, node: usize) -> Option<Range>
+pub(crate) fn narrowed<S: System>(system: &S, bounds: &Bounds, node: usize) -> Option<Range>
     requires { ⌜ 1 ≤ node ⌝ ∗ ⌜ node ≤ now bounds .count ⌝ }
     ensures is { λ r. ⌜ r ≡ narrowed (meaning (now (system .entry))) (box (now (bounds .entry))) node ⌝ }
     ensures narrow { λ r. ⌜ Cases r (Unit {0}) (Between (2 ^ 30)) ⌝ }
@@ -60,14 +60,18 @@ fn accept(bounds: &mut Bounds, node: usize, range: Option<Range>) -> Result<bool
     Ok(changed)
 }
 
-pub fn is_node(bounds: &Bounds, node: usize) -> bool
+pub(crate) fn is_node(bounds: &Bounds, node: usize) -> bool
     ensures is { λ r. ⌜ r ≡ is-node (length (box (now (bounds .entry)))) node ⌝ }
     ensures within { λ r. ⌜ (r ≡ true → (1 ≤ node) × (node ≤ now (bounds .entry) .count)) ⌝ }
 {
     1 <= node && node <= bounds.count()
 }
 
-pub fn step_row<S: System>(system: &S, bounds: &mut Bounds, node: usize) -> Result<bool, Refusal>
+pub(crate) fn step_row<S: System>(
+    system: &S,
+    bounds: &mut Bounds,
+    node: usize,
+) -> Result<bool, Refusal>
     requires { ⌜ 1 ≤ node ⌝ ∗ ⌜ node ≤ now bounds .count ⌝ }
     ensures answers { λ r. ⌜ r ≡ step-result (row-step (meaning (now (system .entry))) (box (now (bounds .entry))) node) ⌝ }
     ensures leaves { λ r. ⌜ box (now (bounds .exit)) ≡ step-box (box (now (bounds .entry))) (row-step (meaning (now (system .entry))) (box (now (bounds .entry))) node) ⌝ }
@@ -78,7 +82,7 @@ pub fn step_row<S: System>(system: &S, bounds: &mut Bounds, node: usize) -> Resu
 }
 
 // A row step of each node in order; a conflict undoes them all.
-pub fn sweep<S: System>(system: &S, bounds: &mut Bounds) -> Result<usize, Refusal>
+pub(crate) fn sweep<S: System>(system: &S, bounds: &mut Bounds) -> Result<usize, Refusal>
     ensures answers { λ r. ⌜ changes r ≡ outcome (meaning (now (system .entry))) (box (now (bounds .entry))) round .answer ⌝ }
     ensures leaves { λ r. ⌜ box (now (bounds .exit)) ≡ outcome (meaning (now (system .entry))) (box (now (bounds .entry))) round .box ⌝ }
 {
@@ -104,7 +108,12 @@ fn counted(count: usize, more: bool) -> usize
     if more { count + 1 } else { count }
 }
 
-pub fn read(bounds: &mut Bounds, node: usize, lower: i64, upper: i64) -> Result<bool, Refusal>
+pub(crate) fn read(
+    bounds: &mut Bounds,
+    node: usize,
+    lower: i64,
+    upper: i64,
+) -> Result<bool, Refusal>
     ensures answers { λ r. ⌜ changed r ≡ reading-outcome (box (now (bounds .entry))) node lower upper .answer ⌝ }
     ensures leaves { λ r. ⌜ box (now (bounds .exit)) ≡ reading-outcome (box (now (bounds .entry))) node lower upper .box ⌝ }
     ensures count { λ r. ⌜ now (bounds .exit) .count ≡ now (bounds .entry) .count ⌝ }
@@ -130,7 +139,7 @@ fn mark(result: Result<bool, Refusal>) -> u8
 }
 
 // The records in order as readings, each marked in place.
-pub fn read_all(bounds: &mut Bounds, list: &mut [Reading])
+pub(crate) fn read_all(bounds: &mut Bounds, list: &mut [Reading])
     ensures leaves { λ r. ⌜ box (now (bounds .exit)) ≡ readings-outcome (box (now (bounds .entry))) [] (now (list .entry)) .box ⌝ }
     ensures records { λ r. ⌜ now (list .exit) ≡ readings-outcome (box (now (bounds .entry))) [] (now (list .entry)) .records ⌝ }
 {

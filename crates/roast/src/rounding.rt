@@ -9,7 +9,7 @@ ghost use Rattle.roast.specs.Rounding.{holds-zero, floor, ceiling, negated, qu
 ghost use Rattle.roast.specs.Narrowing.{same-number, same-range};
 use balance::range::Range;
 
-pub fn minus(a: Range, b: Range) -> Range
+pub(crate) fn minus(a: Range, b: Range) -> Range
     requires { ⌜ Fits64 (minus a b) ⌝ }
     ensures { λ r. ⌜ r ≡ minus a b ⌝ }
 {
@@ -19,7 +19,7 @@ pub fn minus(a: Range, b: Range) -> Range
     }
 }
 
-pub fn holds_zero(a: Range) -> bool
+pub(crate) fn holds_zero(a: Range) -> bool
     ensures { λ r. ⌜ r ≡ holds-zero a ⌝ }
 {
     a.lower <= 0 && 0 <= a.upper
@@ -62,7 +62,7 @@ fn negated(a: Range) -> Range
 }
 
 // Every quotient of a number of `m` by a number of `d`, which does not hold 0.
-pub fn quotient(m: Range, d: Range) -> Range
+pub(crate) fn quotient(m: Range, d: Range) -> Range
     requires { ⌜ Between (2 ^ 63 - 1) m ⌝ ∗ ⌜ Between (2 ^ 20) d ⌝ ∗ ⌜ holds-zero d ≡ false ⌝ }
     ensures is { λ r. ⌜ r ≡ quotient m d ⌝ }
     ensures rounds_outward { λ r. ⌜ RoundedOutward m d r ⌝ }
@@ -75,7 +75,7 @@ pub fn quotient(m: Range, d: Range) -> Range
 }
 
 // The numbers that two ranges have in common.
-pub fn shared(a: Range, b: Range) -> Option<Range>
+pub(crate) fn shared(a: Range, b: Range) -> Option<Range>
     ensures is { λ r. ⌜ r ≡ shared a b ⌝ }
     ensures is_the_common_part { λ r. ⌜ CommonPart a b r ⌝ }
 {
@@ -94,7 +94,7 @@ fn same_number(x: i64, y: i64) -> bool
     x <= y && y <= x
 }
 
-pub fn same_range(a: Range, b: Range) -> bool
+pub(crate) fn same_range(a: Range, b: Range) -> bool
     ensures { λ r. ⌜ r ≡ same-range a b ⌝ }
 {
     same_number(a.lower, b.lower) && same_number(a.upper, b.upper)
