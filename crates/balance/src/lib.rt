@@ -1,4 +1,6 @@
 // Interval linear systems of a steady heat balance: refusals, ranges, the interface of a system, tables, and a point against the balance.
+#![tactic(auto)]
+
 pub mod cell;
 mod interval;
 pub mod places;

@@ -6,8 +6,8 @@ use super::system::System;
 
 // Asks for every place, row by row, the columns before the right side. The first refusal met ends the search.
 pub fn every_place_answers<S: System>(system: &S) -> Result<(), Refusal>
-    ensures answers { result ≡ unless_refused (first_refusal (meaning system.now)) (Ok tt) }
-    ensures names_the_first_refused_place { Searched (meaning system.now) result }
+    ensures answers { result ≡ unless_refused (first_refusal (S.meaning system.now)) (Ok tt) }
+    ensures names_the_first_refused_place { Searched (S.meaning system.now) result }
 {
     let size = system.size();
     'search: {

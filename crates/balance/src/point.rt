@@ -21,8 +21,8 @@ pub fn possible<S: System>(
     numerators: &[i64],
     denominator: i64,
 ) -> Result<bool, Refusal>
-    ensures answers { result ≡ possible_answer (meaning system.now) numerators.now denominator }
-    ensures says_yes_exactly_if_a_member_has_the_point { TellsPossible (meaning system.now) numerators.now denominator result }
+    ensures answers { result ≡ possible_answer (S.meaning system.now) numerators.now denominator }
+    ensures says_yes_exactly_if_a_member_has_the_point { TellsPossible (S.meaning system.now) numerators.now denominator result }
 {
     every_place_answers(system)?;
     check_point(system.size(), numerators, denominator)?;
@@ -60,8 +60,8 @@ fn check_point(size: usize, numerators: &[i64], denominator: i64) -> Result<(), 
 }
 
 fn every_row_fits<S: System>(system: &S, numerators: &[i64], denominator: i64) -> bool
-    requires { (first_refusal (meaning system.now) ≡ None) × (point_refusal (meaning system.now).size numerators.now denominator ≡ None) }
-    ensures { result ≡ every (fits (meaning system.now) (numerator numerators.now) denominator) (meaning system.now).size }
+    requires { (first_refusal (S.meaning system.now) ≡ None) × (point_refusal (S.meaning system.now).size numerators.now denominator ≡ None) }
+    ensures { result ≡ every (fits (S.meaning system.now) (numerator numerators.now) denominator) (S.meaning system.now).size }
 {
     for i in 0..system.size() {
         if !row_fits(system, numerators, denominator, i + 1) {
@@ -73,9 +73,9 @@ fn every_row_fits<S: System>(system: &S, numerators: &[i64], denominator: i64) -
 
 // Whether the sum of a row and the denominator times its right side have a number in common.
 fn row_fits<S: System>(system: &S, numerators: &[i64], denominator: i64, row: usize) -> bool
-    requires system_value { (first_refusal (meaning system.now) ≡ None) × (point_refusal (meaning system.now).size numerators.now denominator ≡ None) }
-    requires le_row { (1 ≤ row) × (row ≤ (meaning system.now).size) }
-    ensures { result ≡ fits (meaning system.now) (numerator numerators.now) denominator row }
+    requires not_refused { (first_refusal (S.meaning system.now) ≡ None) × (point_refusal (S.meaning system.now).size numerators.now denominator ≡ None) }
+    requires row_is_a_node { (1 ≤ row) × (row ≤ (S.meaning system.now).size) }
+    ensures { result ≡ fits (S.meaning system.now) (numerator numerators.now) denominator row }
 {
     let Some(sum) = row_sum(system, numerators, row, 0) else {
         return false;

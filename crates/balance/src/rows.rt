@@ -10,7 +10,7 @@ use super::system::System;
 
 // The range of a coefficient, where its place answers.
 pub fn coefficient_range<S: System>(system: &S, row: usize, column: usize) -> Option<Range>
-    ensures is_the_range_where_it_answers { result ≡ found (coefficient_answer (meaning system.now) row column) }
+    ensures is_the_range_where_it_answers { result ≡ found (coefficient_answer (S.meaning system.now) row column) }
     ensures keeps_the_limit { IfSome result (Between (2 ^ 20)) }
 {
     match system.coefficient(row, column) {
@@ -21,7 +21,7 @@ pub fn coefficient_range<S: System>(system: &S, row: usize, column: usize) -> Op
 
 // The range of a right side, where its place answers.
 pub fn right_side_range<S: System>(system: &S, row: usize) -> Option<Range>
-    ensures is_the_range_where_it_answers { result ≡ found (right_side_answer (meaning system.now) row) }
+    ensures is_the_range_where_it_answers { result ≡ found (right_side_answer (S.meaning system.now) row) }
     ensures keeps_the_limit { IfSome result (Between (2 ^ 42)) }
 {
     match system.right_side(row) {
@@ -42,7 +42,7 @@ fn small(x: Range) -> bool
 // What a column adds to the sum of a row.
 fn term<S: System>(system: &S, row: usize, without: usize, column: usize, x: Range) -> Option<Range>
     requires { x.lower ≤ℤ x.upper }
-    ensures is { result ≡ term (meaning system.now) row without column x }
+    ensures is { result ≡ term (S.meaning system.now) row without column x }
     ensures narrow { IfSome result (Between (2 ^ 57)) }
 {
     if column == without {
@@ -60,7 +60,7 @@ fn term<S: System>(system: &S, row: usize, without: usize, column: usize, x: Ran
 
 // The sum of a row over the ranges of all nodes, without one column (0: with every column), where each coefficient in it answers and no range is too large.
 pub fn row_sum<S: System, C: Cell>(system: &S, x: &[C], row: usize, without: usize) -> Option<Range>
-    ensures is_the_sum_where_all_answer { result ≡ row_sum (meaning system.now) (map C.Cell.ends x.now) row without }
+    ensures is_the_sum_where_all_answer { result ≡ row_sum (S.meaning system.now) (map C.Cell.ends x.now) row without }
     ensures keeps_the_limit { IfSome result (Between (2 ^ 62)) }
 {
     if x.len() != system.size() {

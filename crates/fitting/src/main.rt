@@ -1,4 +1,6 @@
 // What a fitting engineer does by hand: key in a drum, hold probe temperatures against it, slip on the keys.
+#![tactic(auto)]
+
 ghost use Rattle.fitting.specs.Worked.{WorkedDrums};
 
 mod drums;

@@ -1,4 +1,6 @@
 // One drum as a network of links and as a table, and layers over the network. At rest the ranges agree node by node.
+#![tactic(auto)]
+
 ghost use Rattle.piles.specs.Worked.{WorkedPiles};
 
 use balance::cell::Cell;

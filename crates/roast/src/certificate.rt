@@ -64,8 +64,8 @@ fn mignitude(a: Range) -> u64
 
 // A coefficient's range; [0, 0] where its place is refused.
 fn coefficient<S: System>(system: &S, row: usize, column: usize) -> Range
-    requires { (1 ≤ row) × ((row ≤ (meaning system.now).size) × ((1 ≤ column) × (column ≤ (meaning system.now).size))) }
-    ensures is { result ≡ coefficient_range (meaning system.now) row column }
+    requires { (1 ≤ row) × ((row ≤ (S.meaning system.now).size) × ((1 ≤ column) × (column ≤ (S.meaning system.now).size))) }
+    ensures is { result ≡ coefficient_range (S.meaning system.now) row column }
     ensures narrow { Between (2 ^ 20) result }
 {
     match coefficient_range(system, row, column) {
@@ -76,8 +76,8 @@ fn coefficient<S: System>(system: &S, row: usize, column: usize) -> Range
 
 // A right side's range; [0, 0] where its place is refused.
 fn right_side<S: System>(system: &S, row: usize) -> Range
-    requires { (1 ≤ row) × (row ≤ (meaning system.now).size) }
-    ensures is { result ≡ right_side_range (meaning system.now) row }
+    requires { (1 ≤ row) × (row ≤ (S.meaning system.now).size) }
+    ensures is { result ≡ right_side_range (S.meaning system.now) row }
     ensures narrow { Between (2 ^ 42) result }
 {
     match right_side_range(system, row) {
@@ -100,8 +100,8 @@ fn other(a: Range, number: i64, diagonal: bool) -> u64
 
 // The magnitudes of a row but its diagonal, each times its number.
 fn others<S: System>(system: &S, certificate: &[i64], node: usize) -> u64
-    requires { (certificate_refusal (meaning system.now).size certificate.now ≡ None) × ((1 ≤ node) × (node ≤ (meaning system.now).size)) }
-    ensures is { result ≡ others (meaning system.now) certificate.now node (meaning system.now).size }
+    requires { (certificate_refusal (S.meaning system.now).size certificate.now ≡ None) × ((1 ≤ node) × (node ≤ (S.meaning system.now).size)) }
+    ensures is { result ≡ others (S.meaning system.now) certificate.now node (S.meaning system.now).size }
     ensures small { result ≤ 2 ^ 45 }
 {
     let mut sum = 0;
@@ -114,8 +114,8 @@ fn others<S: System>(system: &S, certificate: &[i64], node: usize) -> u64
 
 // What the diagonal of a row has over the rest of it.
 fn margin<S: System>(system: &S, certificate: &[i64], node: usize) -> i64
-    requires { (certificate_refusal (meaning system.now).size certificate.now ≡ None) × ((1 ≤ node) × (node ≤ (meaning system.now).size)) }
-    ensures is { result ≡ v (meaning system.now) certificate.now node }
+    requires { (certificate_refusal (S.meaning system.now).size certificate.now ≡ None) × ((1 ≤ node) × (node ≤ (S.meaning system.now).size)) }
+    ensures is { result ≡ v (S.meaning system.now) certificate.now node }
     ensures small { result ≤ℤ pos (2 ^ 40) }
 {
     let own = own_weight(coefficient(system, node, node), certificate[node - 1]);
@@ -132,9 +132,9 @@ fn own_weight(a: Range, number: i64) -> u64
 
 // The margins of all rows, or the first row that has none.
 fn margins<S: System>(system: &S, certificate: &[i64]) -> Result<[u64; 32], Refusal>
-    requires { certificate_refusal (meaning system.now).size certificate.now ≡ None }
-    ensures margins { IfOk result (λ xs. Margins (meaning system.now) certificate.now xs) }
-    ensures first { first (dominance_refusal (meaning system.now) certificate.now) (meaning system.now).size ≡ refusal_of result }
+    requires { certificate_refusal (S.meaning system.now).size certificate.now ≡ None }
+    ensures margins { IfOk result (λ xs. Margins (S.meaning system.now) certificate.now xs) }
+    ensures first { first (dominance_refusal (S.meaning system.now) certificate.now) (S.meaning system.now).size ≡ refusal_of result }
 {
     let mut margins = [0; 32];
     for i in 0..certificate.len() {
@@ -149,7 +149,7 @@ fn margins<S: System>(system: &S, certificate: &[i64]) -> Result<[u64; 32], Refu
 
 // The magnitudes of all right sides.
 fn sides<S: System>(system: &S) -> [u64; 32]
-    ensures { Sides (meaning system.now) result }
+    ensures { Sides (S.meaning system.now) result }
 {
     let mut sides = [0; 32];
     for i in 0..system.size() {
@@ -167,8 +167,8 @@ fn rounded_up(a: u64, d: u64) -> u64
 
 // The largest of number × side / margin over all rows, each rounded up.
 fn first_end(number: u64, sides: &[u64], margins: &[u64], size: usize) -> u64
-    requires number_bound { (number ≤ 2 ^ 20) × ((size ≤ length sides.now) × (size ≤ length margins.now)) }
-    requires by_index { (j : ℕ) → j < size → (slice_index sides.now j ≤ 2 ^ 42) × ((1 ≤ slice_index margins.now j) × (slice_index margins.now j ≤ 2 ^ 40)) }
+    requires counted { (number ≤ 2 ^ 20) × ((size ≤ length sides.now) × (size ≤ length margins.now)) }
+    requires narrow { (j : ℕ) → j < size → (slice_index sides.now j ≤ 2 ^ 42) × ((1 ≤ slice_index margins.now j) × (slice_index margins.now j ≤ 2 ^ 40)) }
     ensures { result ≡ largest (λ j. rounded_up (number * slice_index sides.now (j - 1)) (slice_index margins.now (j - 1))) size }
 {
     let mut end: u64 = 0;
@@ -197,10 +197,10 @@ fn fill<S: System>(
     sides: &[u64; 32],
     margins: &[u64; 32],
 ) -> Result<Bounds, Refusal>
-    requires certificate_value { certificate_refusal (meaning system.now).size certificate.now ≡ None }
-    requires sides { (Sides (meaning system.now) sides.now) × (Margins (meaning system.now) certificate.now margins.now) }
-    ensures boxed { IfOk result (λ b. box b ≡ first_box (meaning system.now) certificate.now) }
-    ensures first { first (wide_refusal (meaning system.now) certificate.now) (meaning system.now).size ≡ refusal_of result }
+    requires certificate_taken { certificate_refusal (S.meaning system.now).size certificate.now ≡ None }
+    requires sides_made { (Sides (S.meaning system.now) sides.now) × (Margins (S.meaning system.now) certificate.now margins.now) }
+    ensures boxed { IfOk result (λ b. box b ≡ first_box (S.meaning system.now) certificate.now) }
+    ensures first { first (wide_refusal (S.meaning system.now) certificate.now) (S.meaning system.now).size ≡ refusal_of result }
 {
     let mut bounds = Bounds::none();
     for i in 0..certificate.len() {
@@ -216,7 +216,7 @@ fn fill<S: System>(
 
 // The bounds that an opening with this certificate gives.
 pub(crate) fn first_bounds<S: System>(system: &S, certificate: &[i64]) -> Result<Bounds, Refusal>
-    ensures { boxed result ≡ opening (meaning system.now) certificate.now }
+    ensures { boxed result ≡ opening (S.meaning system.now) certificate.now }
 {
     every_place_answers(system)?;
     check_certificate(system.size(), certificate)?;

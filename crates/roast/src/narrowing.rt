@@ -18,7 +18,7 @@ use balance::system::System;
 // What a row leaves of its node's range.
 pub(crate) fn narrowed<S: System>(system: &S, bounds: &Bounds, node: usize) -> Option<Range>
     requires { (1 ≤ node) × (node ≤ bounds.now.count) }
-    ensures is { result ≡ narrowed (meaning system.now) (box bounds.now) node }
+    ensures is { result ≡ narrowed (S.meaning system.now) (box bounds.now) node }
     ensures narrow { IfSome result (Between (2 ^ 30)) }
 {
     let Some(sum) = row_sum(system, bounds.all(), node, node) else {
@@ -39,8 +39,8 @@ pub(crate) fn narrowed<S: System>(system: &S, bounds: &Bounds, node: usize) -> O
 
 // Gives the node a range, where there is one, and says whether that changed it.
 fn accept(bounds: &mut Bounds, node: usize, range: Option<Range>) -> Result<bool, Refusal>
-    requires le_node { (1 ≤ node) × (node ≤ bounds.old.count) }
-    requires some { IfSome range (Between (2 ^ 30)) }
+    requires at_a_node { (1 ≤ node) × (node ≤ bounds.old.count) }
+    requires narrow { IfSome range (Between (2 ^ 30)) }
     ensures answers { result ≡ step_result (step (box bounds.old) node range) }
     ensures leaves { box bounds.new ≡ step_box (box bounds.old) (step (box bounds.old) node range) }
     ensures count { bounds.new.count ≡ bounds.old.count }
@@ -66,8 +66,8 @@ pub(crate) fn step_row<S: System>(
     node: usize,
 ) -> Result<bool, Refusal>
     requires { (1 ≤ node) × (node ≤ bounds.old.count) }
-    ensures answers { result ≡ step_result (row_step (meaning system.now) (box bounds.old) node) }
-    ensures leaves { box bounds.new ≡ step_box (box bounds.old) (row_step (meaning system.now) (box bounds.old) node) }
+    ensures answers { result ≡ step_result (row_step (S.meaning system.now) (box bounds.old) node) }
+    ensures leaves { box bounds.new ≡ step_box (box bounds.old) (row_step (S.meaning system.now) (box bounds.old) node) }
     ensures count { bounds.new.count ≡ bounds.old.count }
 {
     let range = narrowed(system, bounds, node);
@@ -76,8 +76,8 @@ pub(crate) fn step_row<S: System>(
 
 // A row step of each node in order; a conflict undoes them all.
 pub(crate) fn sweep<S: System>(system: &S, bounds: &mut Bounds) -> Result<usize, Refusal>
-    ensures answers { changes result ≡ (outcome (meaning system.now) (box bounds.old) round).answer }
-    ensures leaves { box bounds.new ≡ (outcome (meaning system.now) (box bounds.old) round).box }
+    ensures answers { changes result ≡ (outcome (S.meaning system.now) (box bounds.old) round).answer }
+    ensures leaves { box bounds.new ≡ (outcome (S.meaning system.now) (box bounds.old) round).box }
 {
     let before = *bounds;
     let mut changed = 0;

@@ -40,8 +40,8 @@ fn ends(res: Result<(i64, i64), Refusal>) -> Answer
 // Makes a call that has no records.
 fn play_plain<S: System>(roast: &mut Roast<S>, call: &Call) -> Answer
     requires { plain (asked call.now) ≡ true }
-    ensures answers { result ≡ (outcome (meaning roast.old.system) (box roast.old.bounds) (asked call.now)).answer }
-    ensures leaves { box roast.new.bounds ≡ (outcome (meaning roast.old.system) (box roast.old.bounds) (asked call.now)).box }
+    ensures answers { result ≡ (outcome (S.meaning roast.old.system) (box roast.old.bounds) (asked call.now)).answer }
+    ensures leaves { box roast.new.bounds ≡ (outcome (S.meaning roast.old.system) (box roast.old.bounds) (asked call.now)).box }
     ensures same { roast.new.system ≡ roast.old.system }
 {
     match call {
@@ -56,9 +56,9 @@ fn play_plain<S: System>(roast: &mut Roast<S>, call: &Call) -> Answer
 
 // Makes a call.
 fn play<S: System>(roast: &mut Roast<S>, call: &mut Call) -> Answer
-    ensures answers { result ≡ (outcome (meaning roast.old.system) (box roast.old.bounds) (asked call.old)).answer }
-    ensures leaves { box roast.new.bounds ≡ (outcome (meaning roast.old.system) (box roast.old.bounds) (asked call.old)).box }
-    ensures records { asked call.new ≡ answered (asked call.old) (outcome (meaning roast.old.system) (box roast.old.bounds) (asked call.old)) }
+    ensures answers { result ≡ (outcome (S.meaning roast.old.system) (box roast.old.bounds) (asked call.old)).answer }
+    ensures leaves { box roast.new.bounds ≡ (outcome (S.meaning roast.old.system) (box roast.old.bounds) (asked call.old)).box }
+    ensures records { asked call.new ≡ answered (asked call.old) (outcome (S.meaning roast.old.system) (box roast.old.bounds) (asked call.old)) }
     ensures same { roast.new.system ≡ roast.old.system }
 {
     match call {
@@ -72,9 +72,9 @@ fn play<S: System>(roast: &mut Roast<S>, call: &mut Call) -> Answer
 
 // Makes the call of an entry, and writes its answer beside it.
 fn play_entry<S: System>(roast: &mut Roast<S>, entry: &mut Entry)
-    ensures leaves { box roast.new.bounds ≡ (outcome (meaning roast.old.system) (box roast.old.bounds) (ask entry.old)).box }
-    ensures answers { entry.new.answer ≡ Some (outcome (meaning roast.old.system) (box roast.old.bounds) (ask entry.old)).answer }
-    ensures records { ask entry.new ≡ answered (ask entry.old) (outcome (meaning roast.old.system) (box roast.old.bounds) (ask entry.old)) }
+    ensures leaves { box roast.new.bounds ≡ (outcome (S.meaning roast.old.system) (box roast.old.bounds) (ask entry.old)).box }
+    ensures answers { entry.new.answer ≡ Some (outcome (S.meaning roast.old.system) (box roast.old.bounds) (ask entry.old)).answer }
+    ensures records { ask entry.new ≡ answered (ask entry.old) (outcome (S.meaning roast.old.system) (box roast.old.bounds) (ask entry.old)) }
     ensures same { roast.new.system ≡ roast.old.system }
 {
     entry.answer = Some(play(roast, &mut entry.call));
@@ -82,8 +82,8 @@ fn play_entry<S: System>(roast: &mut Roast<S>, entry: &mut Entry)
 
 // Makes each call in order.
 fn play_all<S: System>(roast: &mut Roast<S>, entries: &mut [Entry])
-    ensures leaves { box roast.new.bounds ≡ after (meaning roast.old.system) (box roast.old.bounds) (map ask entries.old) }
-    ensures answers { map shown entries.new ≡ replayed (meaning roast.old.system) (box roast.old.bounds) (map ask entries.old) }
+    ensures leaves { box roast.new.bounds ≡ after (S.meaning roast.old.system) (box roast.old.bounds) (map ask entries.old) }
+    ensures answers { map shown entries.new ≡ replayed (S.meaning roast.old.system) (box roast.old.bounds) (map ask entries.old) }
     ensures same { roast.new.system ≡ roast.old.system }
 {
     for i in 0..entries.len() {
@@ -94,8 +94,8 @@ fn play_all<S: System>(roast: &mut Roast<S>, entries: &mut [Entry])
 impl<S: System> Roast<S> {
     // Opens the roast and makes a list of calls of any kind, writing each answer beside its call. A refused opening makes none.
     pub fn replay(&mut self, certificate: &[i64], entries: &mut [Entry]) -> Result<(), Refusal>
-        ensures opens_or_refuses_as_opening_does { result ≡ opened (opening (meaning self.old.system) certificate.now) }
-        ensures replays_as_the_machine_and_is_dependable { Replayed (meaning self.old.system) certificate.now entries.old entries.new (box self.old.bounds) (box self.new.bounds) result }
+        ensures opens_or_refuses_as_opening_does { result ≡ opened (opening (S.meaning self.old.system) certificate.now) }
+        ensures replays_as_the_machine_and_is_dependable { Replayed (S.meaning self.old.system) certificate.now entries.old entries.new (box self.old.bounds) (box self.new.bounds) result }
         ensures keeps_the_system { self.new.system ≡ self.old.system }
     {
         if let Err(refusal) = self.open(certificate) {

@@ -33,10 +33,10 @@ impl<S: System> Roast<S> {
 
     // Fills the roast with the first box of a certificate. It may be opened again; a refused opening leaves the box as it was.
     pub fn open(&mut self, certificate: &[i64]) -> Result<(), Refusal>
-        ensures answers { result ≡ opened (opening (meaning self.old.system) certificate.now) }
-        ensures leaves { box self.new.bounds ≡ opened_box (box self.old.bounds) (opening (meaning self.old.system) certificate.now) }
-        ensures opens_exactly_when_certified { elim result [ Ok done ↦ Opens (meaning self.old.system) certificate.now × (box self.new.bounds ≡ first_box (meaning self.old.system) certificate.now) | Err e ↦ (Opens (meaning self.old.system) certificate.now → ⊥) ] }
-        ensures each_end_is_the_least_bound { elim result [ Ok done ↦ ((i : ℕ) → LeastBound (meaning self.old.system) certificate.now i (k (meaning self.old.system) certificate.now i)) | Err e ↦ Unit {0} ] }
+        ensures answers { result ≡ opened (opening (S.meaning self.old.system) certificate.now) }
+        ensures leaves { box self.new.bounds ≡ opened_box (box self.old.bounds) (opening (S.meaning self.old.system) certificate.now) }
+        ensures opens_exactly_when_certified { elim result [ Ok done ↦ Opens (S.meaning self.old.system) certificate.now × (box self.new.bounds ≡ first_box (S.meaning self.old.system) certificate.now) | Err e ↦ (Opens (S.meaning self.old.system) certificate.now → ⊥) ] }
+        ensures each_end_is_the_least_bound { elim result [ Ok done ↦ ((i : ℕ) → LeastBound (S.meaning self.old.system) certificate.now i (k (S.meaning self.old.system) certificate.now i)) | Err e ↦ Unit {0} ] }
         ensures keeps_the_system { self.new.system ≡ self.old.system }
     {
         match first_bounds(&self.system, certificate) {
@@ -50,8 +50,8 @@ impl<S: System> Roast<S> {
 
     // Narrows a node's range by its row, and says whether that changed it.
     pub fn row_step(&mut self, node: usize) -> Result<bool, Refusal>
-        ensures answers { changed result ≡ (outcome (meaning self.old.system) (box self.old.bounds) (row_step_at node)).answer }
-        ensures leaves { box self.new.bounds ≡ (outcome (meaning self.old.system) (box self.old.bounds) (row_step_at node)).box }
+        ensures answers { changed result ≡ (outcome (S.meaning self.old.system) (box self.old.bounds) (row_step_at node)).answer }
+        ensures leaves { box self.new.bounds ≡ (outcome (S.meaning self.old.system) (box self.old.bounds) (row_step_at node)).box }
         ensures keeps_the_system { self.new.system ≡ self.old.system }
     {
         if !narrowing::is_node(&self.bounds, node) {
@@ -62,8 +62,8 @@ impl<S: System> Roast<S> {
 
     // Row steps 1 to n, and how many of them changed a range; all or none.
     pub fn round(&mut self) -> Result<usize, Refusal>
-        ensures answers { changes result ≡ (outcome (meaning self.old.system) (box self.old.bounds) round).answer }
-        ensures leaves { box self.new.bounds ≡ (outcome (meaning self.old.system) (box self.old.bounds) round).box }
+        ensures answers { changes result ≡ (outcome (S.meaning self.old.system) (box self.old.bounds) round).answer }
+        ensures leaves { box self.new.bounds ≡ (outcome (S.meaning self.old.system) (box self.old.bounds) round).box }
         ensures keeps_the_system { self.new.system ≡ self.old.system }
     {
         narrowing::sweep(&self.system, &mut self.bounds)
@@ -71,8 +71,8 @@ impl<S: System> Roast<S> {
 
     // Takes a reading of a node, and says whether it changed the node's range.
     pub fn reading(&mut self, node: usize, lower: i64, upper: i64) -> Result<bool, Refusal>
-        ensures answers { changed result ≡ (outcome (meaning self.old.system) (box self.old.bounds) (reading_at node lower upper)).answer }
-        ensures leaves { box self.new.bounds ≡ (outcome (meaning self.old.system) (box self.old.bounds) (reading_at node lower upper)).box }
+        ensures answers { changed result ≡ (outcome (S.meaning self.old.system) (box self.old.bounds) (reading_at node lower upper)).answer }
+        ensures leaves { box self.new.bounds ≡ (outcome (S.meaning self.old.system) (box self.old.bounds) (reading_at node lower upper)).box }
         ensures keeps_the_system { self.new.system ≡ self.old.system }
     {
         narrowing::read(&mut self.bounds, node, lower, upper)
@@ -80,8 +80,8 @@ impl<S: System> Roast<S> {
 
     // Takes the records in order as readings, and writes 0 or the number of its refusal into each.
     pub fn readings(&mut self, list: &mut [Reading])
-        ensures leaves { box self.new.bounds ≡ (outcome (meaning self.old.system) (box self.old.bounds) (readings list.old)).box }
-        ensures writes_each_record { list.new ≡ (outcome (meaning self.old.system) (box self.old.bounds) (readings list.old)).records }
+        ensures leaves { box self.new.bounds ≡ (outcome (S.meaning self.old.system) (box self.old.bounds) (readings list.old)).box }
+        ensures writes_each_record { list.new ≡ (outcome (S.meaning self.old.system) (box self.old.bounds) (readings list.old)).records }
         ensures keeps_the_system { self.new.system ≡ self.old.system }
     {
         narrowing::read_all(&mut self.bounds, list)
@@ -89,7 +89,7 @@ impl<S: System> Roast<S> {
 
     // Whether every row step would be accepted and change nothing.
     pub fn at_rest(&self) -> bool
-        ensures answers { AtRest result ≡ (outcome (meaning self.now.system) (box self.now.bounds) rest).answer }
+        ensures answers { AtRest result ≡ (outcome (S.meaning self.now.system) (box self.now.bounds) rest).answer }
     {
         for i in 0..self.bounds.count() {
             let Some(range) = narrowing::narrowed(&self.system, &self.bounds, i + 1) else {
@@ -104,7 +104,7 @@ impl<S: System> Roast<S> {
 
     // A node's two ends.
     pub fn ends(&self, node: usize) -> Result<(i64, i64), Refusal>
-        ensures answers { ends result ≡ (outcome (meaning self.now.system) (box self.now.bounds) (ends_at node)).answer }
+        ensures answers { ends result ≡ (outcome (S.meaning self.now.system) (box self.now.bounds) (ends_at node)).answer }
     {
         if !narrowing::is_node(&self.bounds, node) {
             return Err(Refusal::Node { place: node });

@@ -1,4 +1,6 @@
 // What implements the interface of a system beside tables: networks of links, and layers over any system.
+#![tactic(auto)]
+
 pub mod network;
 pub mod record;
 pub mod renumbering;

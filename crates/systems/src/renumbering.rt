@@ -50,10 +50,10 @@ pub struct Renumbering<S: System> {
 impl<S: System> Renumbering<S> {
     // A wrong count, or the first entry that is no node or repeats an earlier one, is refused, and the system and the list come back.
     pub fn new(system: S, order: Vec<usize>) -> Result<Renumbering<S>, Returned<(S, Vec<usize>)>>
-        ensures made_or_refused_at_the_first_entry { elim result [ Ok l ↦ order_refusal (meaning system).size order.items ≡ None | Err e ↦ order_refusal (meaning system).size order.items ≡ Some e.refusal ] }
-        ensures made_exactly_for_a_permutation { elim result [ Ok l ↦ IsPermutation (meaning system).size order.items | Err e ↦ (IsPermutation (meaning system).size order.items → ⊥) ] }
+        ensures made_or_refused_at_the_first_entry { elim result [ Ok l ↦ order_refusal (S.meaning system).size order.items ≡ None | Err e ↦ order_refusal (S.meaning system).size order.items ≡ Some e.refusal ] }
+        ensures made_exactly_for_a_permutation { elim result [ Ok l ↦ IsPermutation (S.meaning system).size order.items | Err e ↦ (IsPermutation (S.meaning system).size order.items → ⊥) ] }
         ensures holds_the_system_and_the_order { elim result [ Ok l ↦ (l.system ≡ system) × (l.order ≡ order) | Err e ↦ e.value ≡ (system, order) ] }
-        ensures renumbers_the_solutions { elim result [ Ok l ↦ RenumbersSolutions order.items (meaning system) | Err e ↦ Unit {0} ] }
+        ensures renumbers_the_solutions { elim result [ Ok l ↦ RenumbersSolutions order.items (S.meaning system) | Err e ↦ Unit {0} ] }
     {
         if let Err(refusal) = check_order(system.size(), &order) {
             return Err(Returned {
@@ -66,8 +66,8 @@ impl<S: System> Renumbering<S> {
 
     // The node below; above a system of another size than the layer was made for, the node itself.
     fn below(&self, node: usize) -> usize
-        requires { (1 ≤ node) × (node ≤ (meaning self.now.system).size) }
-        ensures { result ≡ node_below self.now.order.items (meaning self.now.system).size node }
+        requires { (1 ≤ node) × (node ≤ (S.meaning self.now.system).size) }
+        ensures { result ≡ node_below self.now.order.items (S.meaning self.now.system).size node }
     {
         if self.order.len() == self.system.size() {
             self.order[node - 1]

@@ -72,9 +72,9 @@ pub struct RowScaler<S: System> {
 impl<S: System> RowScaler<S> {
     // A wrong count, or the first factor that is not allowed, is refused, and the system and the factors come back.
     pub fn new(system: S, factors: Vec<i64>) -> Result<RowScaler<S>, Returned<(S, Vec<i64>)>>
-        ensures made_exactly_when_every_factor_is_taken { elim result [ Ok l ↦ factors_refusal (meaning system).size factors.items ≡ None | Err e ↦ factors_refusal (meaning system).size factors.items ≡ Some e.refusal ] }
+        ensures made_exactly_when_every_factor_is_taken { elim result [ Ok l ↦ factors_refusal (S.meaning system).size factors.items ≡ None | Err e ↦ factors_refusal (S.meaning system).size factors.items ≡ Some e.refusal ] }
         ensures holds_the_system_and_the_factors { elim result [ Ok l ↦ (l.system ≡ system) × (l.factors ≡ factors) | Err e ↦ e.value ≡ (system, factors) ] }
-        ensures keeps_the_solutions { elim result [ Ok l ↦ KeepsSolutions (meaning system) (row_scaled factors.items (meaning system)) | Err e ↦ Unit {0} ] }
+        ensures keeps_the_solutions { elim result [ Ok l ↦ KeepsSolutions (S.meaning system) (row_scaled factors.items (S.meaning system)) | Err e ↦ Unit {0} ] }
     {
         if let Err(refusal) = check_factors(system.size(), &factors) {
             return Err(Returned {
@@ -87,8 +87,8 @@ impl<S: System> RowScaler<S> {
 
     // The factor of a row, above a system of the size that the layer was made for.
     fn factor(&self, row: usize) -> Option<i64>
-        requires { (1 ≤ row) × (row ≤ (meaning self.now.system).size) }
-        ensures is { result ≡ row_factor self.now.factors.items (meaning self.now.system).size row }
+        requires { (1 ≤ row) × (row ≤ (S.meaning self.now.system).size) }
+        ensures is { result ≡ row_factor self.now.factors.items (S.meaning self.now.system).size row }
         ensures small { IfSome result (λ f. unsigned_abs f ≤ 1024) }
     {
         if self.factors.len() == self.system.size() {

@@ -16,4 +16,4 @@ pub product-t-requires : goal.product-t-requires
 product-t-requires c = product_fits c.args.a.upper c.args.b.upper (search rules) (search rules) (products_fit c.args.a c.args.b c.requires).3
 
 pub returns : goal.returns
-returns c = record { is = grind (arith, to_z-of_z); extends-the-product = times_extends }
+returns c = record { is = grind (arith, to_z-of_z); extends_the_product = times_extends }

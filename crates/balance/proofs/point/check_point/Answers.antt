@@ -11,8 +11,8 @@ use Rattle.balance.proofs.point.check_point.Goals as goal
 pub loop-j-init : goal.loop-j-init
 loop-j-init c = refl
 
-pub returns-then-not-numerator-allowed : goal.returns-then-not-numerator-allowed
-returns-then-not-numerator-allowed c =
+pub returns-then-not-numerator_allowed : goal.returns-then-not-numerator_allowed
+returns-then-not-numerator_allowed c =
     let ps = c.args.numerators.now in
     let q = c.args.denominator in
     let j = c.loop-j.j in
@@ -20,8 +20,8 @@ returns-then-not-numerator-allowed c =
     let p = get_or ps j (pos 0) in
     let f : SFits w64 p = search rules in
     let d : to_z w64 (of_z w64 q) ≡ q = to_z-of_z w64 q c.ranges.denominator in
-    let h = numerator_fails ps j p refl (ap numerator_between (sym (to_z-of_z w64 p f)) ∙ sym c.if-not-numerator-allowed.ensures) in
-    let e = point_refusal_is c.args.size ps q (Some x) c.if-numerators-size.false (ap denominator_between (sym d) ∙ sym c.if-not-denominator-allowed.ensures) (first_stops (numerator_refusal ps) x j c.args.size c.loop-j.invariant h (omega arith)) in
+    let h = numerator_fails ps j p refl (ap numerator_between (sym (to_z-of_z w64 p f)) ∙ sym c.if-not-numerator_allowed.ensures) in
+    let e = point_refusal_is c.args.size ps q (Some x) c.if-numerators-size.false (ap denominator_between (sym d) ∙ sym c.if-not-denominator_allowed.ensures) (first_stops (numerator_refusal ps) x j c.args.size c.loop-j.invariant h (omega arith)) in
     ap (λ (o : Option Refusal). unless_refused o (Ok tt)) (sym e)
 
 pub loop-j-preserved : goal.loop-j-preserved
@@ -30,7 +30,7 @@ loop-j-preserved c =
     let j = c.loop-j.j in
     let p = get_or ps j (pos 0) in
     let f : SFits w64 p = search rules in
-    first_more (numerator_refusal ps) j c.loop-j.invariant (numerator_passes ps j p refl (ap numerator_between (sym (to_z-of_z w64 p f)) ∙ sym c.if-not-numerator-allowed.ensures))
+    first_more (numerator_refusal ps) j c.loop-j.invariant (numerator_passes ps j p refl (ap numerator_between (sym (to_z-of_z w64 p f)) ∙ sym c.if-not-numerator_allowed.ensures))
 
 pub returns : goal.returns
 returns c =
@@ -38,5 +38,5 @@ returns c =
     let q = c.args.denominator in
     let d : to_z w64 (of_z w64 q) ≡ q = to_z-of_z w64 q c.ranges.denominator in
     let n : c.args.size ≡ c.loop-j.j = omega arith in
-    let e = point_refusal_is c.args.size ps q None c.if-numerators-size.false (ap denominator_between (sym d) ∙ sym c.if-not-denominator-allowed.ensures) (ap (first (numerator_refusal ps)) n ∙ c.loop-j.invariant) in
+    let e = point_refusal_is c.args.size ps q None c.if-numerators-size.false (ap denominator_between (sym d) ∙ sym c.if-not-denominator_allowed.ensures) (ap (first (numerator_refusal ps)) n ∙ c.loop-j.invariant) in
     ap (λ (o : Option Refusal). unless_refused o (Ok tt)) (sym e)

@@ -13,11 +13,11 @@ returns g c =
     let ps = c.args.numerators.now in
     let q = c.args.denominator in
     let d = to_z-of_z w64 q c.ranges.denominator in
-    let a = unrefused _ c.in-ok-every-place-answers.ensures.answers in
-    let b = ap (λ z. point_refusal m.size ps z) (sym d) ∙ ap (λ n. point_refusal n ps (to_z w64 (of_z w64 q))) (sym c.size.ensures.is-the-size) ∙ unrefused _ c.in-ok-check-point.ensures in
-    let r = c.every-row-fits.ensures ∙ ap (λ z. every (fits m (numerator ps) z) m.size) d in
+    let a = unrefused _ c.in_ok-every_place_answers.ensures.answers in
+    let b = ap (λ z. point_refusal m.size ps z) (sym d) ∙ ap (λ n. point_refusal n ps (to_z w64 (of_z w64 q))) (sym c.size.ensures.is_the_size) ∙ unrefused _ c.in_ok-check_point.ensures in
+    let r = c.every_row_fits.ensures ∙ ap (λ z. every (fits m (numerator ps) z) m.size) d in
     let e = ap (λ (t : Bool). Ok t) r in
     record {
       answers = e ∙ sym (answer_is m ps q a b);
-      says-yes-exactly-if-a-member-has-the-point = subst (TellsPossible m ps q) (sym e) (answer_tells m (g.met.S.System.lawful s) (all_answer m a) ps q (allowed _ _ _ b));
+      says_yes_exactly_if_a_member_has_the_point = subst (TellsPossible m ps q) (sym e) (answer_tells m (g.met.S.System.lawful s) (all_answer m a) ps q (allowed _ _ _ b));
     }

@@ -10,27 +10,27 @@ use Rattle.balance.proofs.point.row_fits.Goals as goal
 no_none : {P : Type 0} (r : Range) → None ≡ Some r → P
 no_none r h = let z : ◌≡◌ {A = ℕ} 0 1 = cc in absurd (omega arith)
 
-pub returns-in-default : goal.returns-in-default
-returns-in-default g c =
+pub returns-in_default : goal.returns-in_default
+returns-in_default g c =
     let m = g.S.System.meaning c.args.system.now in
-    no_none _ (c.in-default.ensures.is-the-sum-where-all-answer ∙ row_there m (all_answer m c.requires.0.0) c.args.numerators.now c.args.denominator (allowed _ _ _ c.requires.0.1) c.args.row c.requires.1)
+    no_none _ (c.in_default.ensures.is_the_sum_where_all_answer ∙ row_there m (all_answer m c.requires.not_refused.0) c.args.numerators.now c.args.denominator (allowed _ _ _ c.requires.not_refused.1) c.args.row c.requires.row_is_a_node)
 
-pub returns-in-default-right-side-range : goal.returns-in-default-right-side-range
-returns-in-default-right-side-range g c =
+pub returns-in_default-right_side_range : goal.returns-in_default-right_side_range
+returns-in_default-right_side_range g c =
     let m = g.S.System.meaning c.args.system.now in
-    no_none _ (c.in-default-right-side-range.ensures.is-the-range-where-it-answers ∙ side_there m (all_answer m c.requires.0.0) c.args.numerators.now c.args.denominator (allowed _ _ _ c.requires.0.1) c.args.row c.requires.1)
+    no_none _ (c.in_default-right_side_range.ensures.is_the_range_where_it_answers ∙ side_there m (all_answer m c.requires.not_refused.0) c.args.numerators.now c.args.denominator (allowed _ _ _ c.requires.not_refused.1) c.args.row c.requires.row_is_a_node)
 
 pub times-requires : goal.times-requires
 times-requires g c =
     let m = g.S.System.meaning c.args.system.now in
-    let side = c.in-Some-right-side-range.side in
+    let side = c.in-Some-right_side_range.side in
     let q = c.tell.result in
-    let n = denominator_narrow m (all_answer m c.requires.0.0) c.args.numerators.now c.args.denominator (allowed _ _ _ c.requires.0.1) c.args.row c.requires.1 q (c.tell.ensures.tells-its-ends ∙ ap only (to_z-of_z w64 _ c.ranges.denominator)) in
-    narrow_fits (2 ^ 62) (times side q) (omega arith) (times_between_bounds side q (2 ^ 42) (2 ^ 20) c.in-Some-right-side-range.ensures.keeps-the-limit n)
+    let n = denominator_narrow m (all_answer m c.requires.not_refused.0) c.args.numerators.now c.args.denominator (allowed _ _ _ c.requires.not_refused.1) c.args.row c.requires.row_is_a_node q (c.tell.ensures.tells_its_ends ∙ ap only (to_z-of_z w64 _ c.ranges.denominator)) in
+    narrow_fits (2 ^ 62) (times side q) (omega arith) (times_between_bounds side q (2 ^ 42) (2 ^ 20) c.in-Some-right_side_range.ensures.keeps_the_limit n)
 
 pub returns : goal.returns
 returns g c =
     let m = g.S.System.meaning c.args.system.now in
-    let d = c.tell.ensures.tells-its-ends ∙ ap only (to_z-of_z w64 _ c.ranges.denominator) in
-    let f = fits_is m (all_answer m c.requires.0.0) c.args.numerators.now c.args.denominator (allowed _ _ _ c.requires.0.1) c.args.row c.requires.1 c.in-Some.sum c.in-Some-right-side-range.side c.tell.result c.in-Some.ensures.is-the-sum-where-all-answer c.in-Some-right-side-range.ensures.is-the-range-where-it-answers d in
+    let d = c.tell.ensures.tells_its_ends ∙ ap only (to_z-of_z w64 _ c.ranges.denominator) in
+    let f = fits_is m (all_answer m c.requires.not_refused.0) c.args.numerators.now c.args.denominator (allowed _ _ _ c.requires.not_refused.1) c.args.row c.requires.row_is_a_node c.in-Some.sum c.in-Some-right_side_range.side c.tell.result c.in-Some.ensures.is_the_sum_where_all_answer c.in-Some-right_side_range.ensures.is_the_range_where_it_answers d in
     c.meets.ensures ∙ ap (meets c.in-Some.sum) c.times.ensures.is ∙ f

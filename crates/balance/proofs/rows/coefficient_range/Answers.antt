@@ -8,6 +8,6 @@ use Rattle.balance.proofs.rows.coefficient_range.Goals as goal
 pub returns-in-Ok : goal.returns-in-Ok
 returns-in-Ok g c =
     let s = c.args.system.now in
-    let b = coefficient_narrow (g.S.System.meaning s) (g.met.S.System.lawful s) c.args.row c.args.column c.in-Ok.lower c.in-Ok.upper c.in-Ok.ensures.answers-by-the-meaning in
+    let b = coefficient_narrow (g.S.System.meaning s) (g.met.S.System.lawful s) c.args.row c.args.column c.in-Ok.lower c.in-Ok.upper c.in-Ok.ensures.answers_by_the_meaning in
     let e = held (2 ^ 20) c.in-Ok.lower c.in-Ok.upper (omega arith) b in
-    record { is-the-range-where-it-answers = ap (λ (r : Range). Some r) e ∙ ap found c.in-Ok.ensures.answers-by-the-meaning; keeps-the-limit = subst (Between (2 ^ 20)) (sym e) b }
+    record { is_the_range_where_it_answers = ap (λ (r : Range). Some r) e ∙ ap found c.in-Ok.ensures.answers_by_the_meaning; keeps_the_limit = subst (Between (2 ^ 20)) (sym e) b }

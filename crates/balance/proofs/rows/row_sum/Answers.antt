@@ -10,19 +10,19 @@ pub returns-then-x-size : goal.returns-then-x-size
 returns-then-x-size g c =
     let m = g.S.System.meaning c.args.system.now in
     let x = c.args.x.now in
-    record { is-the-sum-where-all-answer = sym (row_sum_none m (map g.C.Cell.ends x) c.args.row c.args.without (λ e. c.if-x-size.true (omega (arith, length-map x g.C.Cell.ends)))); keeps-the-limit = tt }
+    record { is_the_sum_where_all_answer = sym (row_sum_none m (map g.C.Cell.ends x) c.args.row c.args.without (λ e. c.if-x-size.true (omega (arith, length-map x g.C.Cell.ends)))); keeps_the_limit = tt }
 
 pub loop-j-init : goal.loop-j-init
 loop-j-init g c = (refl, (omega (arith, ints), omega (arith, ints), omega (arith, ints)))
 
-pub returns-in-default : goal.returns-in-default
-returns-in-default g c =
+pub returns-in_default : goal.returns-in_default
+returns-in_default g c =
     let m = g.S.System.meaning c.args.system.now in
     let f = g.C.Cell.ends in
     let x = c.args.x.now in
     let j = c.loop-j.j in
-    let e : terms m (map f x) c.args.row c.args.without (j + 1) ≡ None = ap (term m c.args.row c.args.without (j + 1)) (at_cell f x j c.index-x-j.result (omega arith) c.index-x-j.is ∙ sym c.tell.ensures.tells-its-ends) ∙ sym c.in-default.ensures.is in
-    record { is-the-sum-where-all-answer = sym (row_sum_is m (map f x) c.args.row c.args.without None (omega (arith, length-map x f)) (sum_of_stops (terms m (map f x) c.args.row c.args.without) j (length (map f x)) e (omega (arith, length-map x f)))); keeps-the-limit = tt }
+    let e : terms m (map f x) c.args.row c.args.without (j + 1) ≡ None = ap (term m c.args.row c.args.without (j + 1)) (at_cell f x j c.index-x-j.result (omega arith) c.index-x-j.is ∙ sym c.tell.ensures.tells_its_ends) ∙ sym c.in_default.ensures.is in
+    record { is_the_sum_where_all_answer = sym (row_sum_is m (map f x) c.args.row c.args.without None (omega (arith, length-map x f)) (sum_of_stops (terms m (map f x) c.args.row c.args.without) j (length (map f x)) e (omega (arith, length-map x f)))); keeps_the_limit = tt }
 
 pub plus-sum-requires : goal.plus-sum-requires
 plus-sum-requires g c =
@@ -40,7 +40,7 @@ loop-j-preserved g c =
     let j = c.loop-j.j in
     let v = c.loop-j.invariant.1 in
     let b = c.in-Some.ensures.narrow in
-    let e : terms m (map f x) c.args.row c.args.without (j + 1) ≡ Some c.in-Some.more = ap (term m c.args.row c.args.without (j + 1)) (at_cell f x j c.index-x-j.result (omega arith) c.index-x-j.is ∙ sym c.tell.ensures.tells-its-ends) ∙ sym c.in-Some.ensures.is in
+    let e : terms m (map f x) c.args.row c.args.without (j + 1) ≡ Some c.in-Some.more = ap (term m c.args.row c.args.without (j + 1)) (at_cell f x j c.index-x-j.result (omega arith) c.index-x-j.is ∙ sym c.tell.ensures.tells_its_ends) ∙ sym c.in-Some.ensures.is in
     let p = c.plus-sum.ensures.is in
     let lo = ap (λ (r : Range). r.lower) p in
     let up = ap (λ (r : Range). r.upper) p in
@@ -55,6 +55,6 @@ returns g c =
     let few = (g.met.S.System.lawful c.args.system.now).few in
     let j : length (map f x) ≡ c.loop-j.j = omega (arith, length-map x f) in
     record {
-      is-the-sum-where-all-answer = sym (row_sum_is m (map f x) c.args.row c.args.without (Some c.loop-j.sum) (omega (arith, length-map x f)) (ap (sum_of (terms m (map f x) c.args.row c.args.without)) j ∙ c.loop-j.invariant.0));
-      keeps-the-limit = (omega (arith, ints), omega (arith, ints), omega (arith, ints));
+      is_the_sum_where_all_answer = sym (row_sum_is m (map f x) c.args.row c.args.without (Some c.loop-j.sum) (omega (arith, length-map x f)) (ap (sum_of (terms m (map f x) c.args.row c.args.without)) j ∙ c.loop-j.invariant.0));
+      keeps_the_limit = (omega (arith, ints), omega (arith, ints), omega (arith, ints));
     }

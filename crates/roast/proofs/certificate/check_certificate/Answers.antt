@@ -11,14 +11,14 @@ use Rattle.roast.proofs.certificate.check_certificate.Goals as goal
 pub loop-i-init : goal.loop-i-init
 loop-i-init c = refl
 
-pub returns-then-not-number-allowed : goal.returns-then-not-number-allowed
-returns-then-not-number-allowed c =
+pub returns-then-not-number_allowed : goal.returns-then-not-number_allowed
+returns-then-not-number_allowed c =
     let us = c.args.certificate.now in
     let i = c.loop-i.i in
     let x = Certificate (i + 1) in
     let n = get_or us i (pos 0) in
     let f : SFits w64 n = search rules in
-    let h = number_fails us i n refl (ap allowed (sym (to_z-of_z w64 n f)) ∙ sym c.if-not-number-allowed.ensures) in
+    let h = number_fails us i n refl (ap allowed (sym (to_z-of_z w64 n f)) ∙ sym c.if-not-number_allowed.ensures) in
     let e = certificate_refusal_is c.args.size us (Some x) c.if-certificate-size.false (first_stops (number_refusal us) x i c.args.size c.loop-i.invariant h (omega arith)) in
     ap (λ (o : Option Refusal). unless_refused o (Ok tt)) (sym e)
 
@@ -28,7 +28,7 @@ loop-i-preserved c =
     let i = c.loop-i.i in
     let n = get_or us i (pos 0) in
     let f : SFits w64 n = search rules in
-    first_more (number_refusal us) i c.loop-i.invariant (number_passes us i n refl (ap allowed (sym (to_z-of_z w64 n f)) ∙ sym c.if-not-number-allowed.ensures))
+    first_more (number_refusal us) i c.loop-i.invariant (number_passes us i n refl (ap allowed (sym (to_z-of_z w64 n f)) ∙ sym c.if-not-number_allowed.ensures))
 
 pub returns : goal.returns
 returns c =

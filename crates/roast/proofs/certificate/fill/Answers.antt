@@ -12,8 +12,8 @@ use Rattle.roast.proofs.certificate.fill.Goals as goal
 pub loop-i-init : goal.loop-i-init
 loop-i-init g c = (ap (λ n. take n c.none-bounds.result.ranges) c.none-bounds.ensures, c.none-bounds.ensures, refl)
 
-pub first-end-end-requires : goal.first-end-end-requires
-first-end-end-requires g c =
+pub first_end-end-requires : goal.first_end-end-requires
+first_end-end-requires g c =
     let s = c.args.system.now in
     let m = g.S.System.meaning s in
     let us = c.args.certificate.now in
@@ -25,27 +25,27 @@ first-end-end-requires g c =
     let b = number_within _ us c.requires.0 i (omega arith) in
     let a = c.told-sides in
     let d = c.told-margins in (
-      (subst (λ z. z ≤ 2 ^ 20) (sym (c.unsigned-abs-number.ensures.value ∙ ap nat_abs (to_z-of_z w64 (get_or us i (pos 0)) f))) b, (omega arith, omega arith)),
+      (subst (λ z. z ≤ 2 ^ 20) (sym (c.unsigned_abs-number.ensures.value ∙ ap nat_abs (to_z-of_z w64 (get_or us i (pos 0)) f))) b, (omega arith, omega arith)),
       entries_within m us c.args.sides.now c.args.margins.now (length us) lawful n c.requires.1.0 c.requires.1.1,
     )
 
-pub returns-then-end-gt-END-LIMIT : goal.returns-then-end-gt-END-LIMIT
-returns-then-end-gt-END-LIMIT g c =
+pub returns-then-end-gt-END_LIMIT : goal.returns-then-end-gt-END_LIMIT
+returns-then-end-gt-END_LIMIT g c =
     let m = g.S.System.meaning c.args.system.now in
     let us = c.args.certificate.now in
     let i = c.loop-i.i in
     let n = (certified _ us c.requires.0).count in
     let f : SFits w64 (get_or us i (pos 0)) = search rules in
-    let number = c.unsigned-abs-number.ensures.value ∙ ap nat_abs (to_z-of_z w64 (get_or us i (pos 0)) f ∙ sym (number_at us i)) in
-    let e = c.first-end-end.ensures ∙ end_is m us c.args.sides.now c.args.margins.now i (length us) c.unsigned-abs-number.result n c.requires.1.0 c.requires.1.1 number in
-    record { boxed = tt; first = first_stops (wide_refusal m us) (Wide (i + 1)) i m.size c.loop-i.invariant.2 (wide_fails m us i c.first-end-end.result e c.if-end-gt-END-LIMIT.true) (omega arith) }
+    let number = c.unsigned_abs-number.ensures.value ∙ ap nat_abs (to_z-of_z w64 (get_or us i (pos 0)) f ∙ sym (number_at us i)) in
+    let e = c.first_end-end.ensures ∙ end_is m us c.args.sides.now c.args.margins.now i (length us) c.unsigned_abs-number.result n c.requires.1.0 c.requires.1.1 number in
+    record { boxed = tt; first = first_stops (wide_refusal m us) (Wide (i + 1)) i m.size c.loop-i.invariant.2 (wide_fails m us i c.first_end-end.result e c.if-end-gt-END_LIMIT.true) (omega arith) }
 
 pub push-requires : goal.push-requires
 push-requires g c =
     let few = (g.met.S.System.lawful c.args.system.now).few in
     let n = (certified _ c.args.certificate.now c.requires.0).count in
     let k = c.loop-i.invariant.1 in
-    (omega arith, c.first-range.ensures.narrow)
+    (omega arith, c.first_range.ensures.narrow)
 
 pub loop-i-preserved : goal.loop-i-preserved
 loop-i-preserved g c =
@@ -54,12 +54,12 @@ loop-i-preserved g c =
     let i = c.loop-i.i in
     let n = (certified _ us c.requires.0).count in
     let f : SFits w64 (get_or us i (pos 0)) = search rules in
-    let number = c.unsigned-abs-number.ensures.value ∙ ap nat_abs (to_z-of_z w64 (get_or us i (pos 0)) f ∙ sym (number_at us i)) in
-    let e = c.first-end-end.ensures ∙ end_is m us c.args.sides.now c.args.margins.now i (length us) c.unsigned-abs-number.result n c.requires.1.0 c.requires.1.1 number in
-    let r : c.first-range.result ≡ first_range m us (i + 1) = c.first-range.ensures.is ∙ ap (λ x. range (neg_ℤ (pos x)) (pos x)) e in (
-      c.push.ensures.is ∙ ap (λ (xs : List Range). xs ++ c.first-range.result ∷ []) c.loop-i.invariant.0 ∙ listed_more (first_range m us) i c.first-range.result r,
+    let number = c.unsigned_abs-number.ensures.value ∙ ap nat_abs (to_z-of_z w64 (get_or us i (pos 0)) f ∙ sym (number_at us i)) in
+    let e = c.first_end-end.ensures ∙ end_is m us c.args.sides.now c.args.margins.now i (length us) c.unsigned_abs-number.result n c.requires.1.0 c.requires.1.1 number in
+    let r : c.first_range.result ≡ first_range m us (i + 1) = c.first_range.ensures.is ∙ ap (λ x. range (neg_ℤ (pos x)) (pos x)) e in (
+      c.push.ensures.is ∙ ap (λ (xs : List Range). xs ++ c.first_range.result ∷ []) c.loop-i.invariant.0 ∙ listed_more (first_range m us) i c.first_range.result r,
       c.push.ensures.count ∙ ap (λ n. n + 1) c.loop-i.invariant.1,
-      first_more (wide_refusal m us) i c.loop-i.invariant.2 (wide_passes m us i c.first-end-end.result e c.if-end-gt-END-LIMIT.false),
+      first_more (wide_refusal m us) i c.loop-i.invariant.2 (wide_passes m us i c.first_end-end.result e c.if-end-gt-END_LIMIT.false),
     )
 
 pub returns : goal.returns

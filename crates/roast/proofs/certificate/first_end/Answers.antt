@@ -6,8 +6,8 @@ use Rattle.roast.proofs.certificate.first_end.Goals as goal
 pub loop-j-init : goal.loop-j-init
 loop-j-init c = refl
 
-pub rounded-up-requires : goal.rounded-up-requires
-rounded-up-requires c =
+pub rounded_up-requires : goal.rounded_up-requires
+rounded_up-requires c =
     let b = c.requires.1 c.loop-j.j c.loop-j-test.true in
     (mul-le-mul c.requires.0.0 b.0, (b.1.0, b.1.1))
 

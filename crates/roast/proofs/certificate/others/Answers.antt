@@ -13,8 +13,8 @@ other-sum-requires g c =
     let b = number_within _ us c.requires.0 j (omega arith) in
     (c.coefficient-a.ensures.narrow, subst (λ z. nat_abs z ≤ 2 ^ 20) (sym (to_z-of_z w64 (get_or us j (pos 0)) f)) b)
 
-pub overflow-add-sum : goal.overflow-add-sum
-overflow-add-sum g c =
+pub overflow_add-sum : goal.overflow_add-sum
+overflow_add-sum g c =
     let few = (g.met.S.System.lawful c.args.system.now).few in
     let n = (certified _ c.args.certificate.now c.requires.0).count in
     let v = c.loop-j.invariant.1 in

@@ -16,7 +16,7 @@ loop-i-preserved g c =
     let xs = c.loop-i.sides in
     let n = c.loop-i.invariant.1 in
     let l : i < length xs = omega arith in
-    (holding_more (λ j. magnitude (right_side_range m j)) i xs c.magnitude.result l (c.magnitude.ensures ∙ ap magnitude c.right-side.ensures.is) c.loop-i.invariant.0, length-set xs i c.magnitude.result ∙ n)
+    (holding_more (λ j. magnitude (right_side_range m j)) i xs c.magnitude.result l (c.magnitude.ensures ∙ ap magnitude c.right_side.ensures.is) c.loop-i.invariant.0, length-set xs i c.magnitude.result ∙ n)
 
 pub returns : goal.returns
 returns g c = λ j p q. c.loop-i.invariant.0 j p (omega arith)

@@ -10,8 +10,8 @@ use Rattle.roast.proofs.Narrow.{narrow_take, shared_narrow}
 use Rattle.roast.proofs.RowSteps.{told_itself, no_sum, leaves}
 use Rattle.roast.proofs.narrowing.narrowed.Goals as goal
 
-pub returns-in-default : goal.returns-in-default
-returns-in-default g c =
+pub returns-in_default : goal.returns-in_default
+returns-in_default g c =
     let m = g.S.System.meaning c.args.system.now in
     let b = c.args.bounds.now in
     let x = box b in
@@ -19,7 +19,7 @@ returns-in-default g c =
     let long : length x ≡ b.count = length-take-le b.count b.ranges (omega (arith, b.few, b.whole)) in
     let narrow = narrow_take b.count b.ranges b.narrow in
     let told : map range_ends c.all.result.now ≡ x = ap (map range_ends) c.all.ensures.is ∙ told_itself x narrow in
-    record { is = sym (no_sum m x i (omega arith) (omega arith) narrow (c.in-default.ensures.is-the-sum-where-all-answer ∙ ap (λ xs. row_sum m xs i i) told)); narrow = tt }
+    record { is = sym (no_sum m x i (omega arith) (omega arith) narrow (c.in_default.ensures.is_the_sum_where_all_answer ∙ ap (λ xs. row_sum m xs i i) told)); narrow = tt }
 
 pub returns : goal.returns
 returns g c =
@@ -31,9 +31,9 @@ returns g c =
     let narrow = narrow_take b.count b.ranges b.narrow in
     let told : map range_ends c.all.result.now ≡ x = ap (map range_ends) c.all.ensures.is ∙ told_itself x narrow in
     let sum = c.in-Some.sum in
-    let side = c.in-Some-right-side-range.side in
-    let diagonal = c.in-Some-coefficient-range.diagonal in
-    let f = leaves m x i (omega arith) (omega arith) narrow sum side diagonal (c.in-Some.ensures.is-the-sum-where-all-answer ∙ ap (λ xs. row_sum m xs i i) told) c.in-Some-right-side-range.ensures.is-the-range-where-it-answers c.in-Some-coefficient-range.ensures.is-the-range-where-it-answers (sym c.if-holds-zero.ensures) in
+    let side = c.in-Some-right_side_range.side in
+    let diagonal = c.in-Some-coefficient_range.diagonal in
+    let f = leaves m x i (omega arith) (omega arith) narrow sum side diagonal (c.in-Some.ensures.is_the_sum_where_all_answer ∙ ap (λ xs. row_sum m xs i i) told) c.in-Some-right_side_range.ensures.is_the_range_where_it_answers c.in-Some-coefficient_range.ensures.is_the_range_where_it_answers (sym c.if-holds_zero.ensures) in
     let e = c.shared.ensures.is in
     let q = c.quotient.ensures.is ∙ ap (λ (n : Range). quotient n diagonal) c.minus-numerator.ensures in
     record {

@@ -12,7 +12,7 @@ use Rattle.roast.proofs.narrowing.read.Goals as goal
 
 pub accept-requires : goal.accept-requires
 accept-requires c =
-    let w = c.if-not-is-node.ensures.within refl in
+    let w = c.if-not-is_node.ensures.within refl in
     let e = c.shared-range.ensures.is in
     ((w.0, w.1), subst (λ (o : Option Range). IfSome o (Between (2 ^ 30))) (sym e) (shared_narrow (2 ^ 30) c.at.result _ c.at.ensures.narrow))
 
@@ -22,7 +22,7 @@ returns c =
     let l : to_z w64 (of_z w64 c.args.lower) ≡ c.args.lower = omega (arith, ints) in
     let u : to_z w64 (of_z w64 c.args.upper) ≡ c.args.upper = omega (arith, ints) in
     let e = c.shared-range.ensures.is ∙ (λ k. shared (c.at.ensures.is k) (range (l k) (u k))) in
-    let n : is_node (length x) c.args.node ≡ true = sym c.if-not-is-node.ensures.is in
+    let n : is_node (length x) c.args.node ≡ true = sym c.if-not-is_node.ensures.is in
     let t : lt_z c.args.upper c.args.lower ≡ false = grind (arith, ints) in
     record {
       answers = read_answers x c.args.node c.args.lower c.args.upper c.shared-range.result n t e c.accept.result c.accept.ensures.answers;

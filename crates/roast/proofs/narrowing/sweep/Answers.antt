@@ -20,5 +20,5 @@ loop-i-preserved g c =
     let i = c.loop-i.i in
     let v = c.loop-i.invariant in
     let a = c.in-Ok.ensures in
-    let s = sweep_more m x (box c.loop-i.bounds) (box c.step-row.new.bounds) i c.loop-i.changed c.in-Ok.more v.0 a.answers a.leaves in
-    (s ∙ ap (λ n. swept n (box c.step-row.new.bounds)) (sym c.counted-changed.ensures.is), a.count ∙ v.1, omega (arith, c.counted-changed.ensures.up, v.2))
+    let s = sweep_more m x (box c.loop-i.bounds) (box c.step_row.new.bounds) i c.loop-i.changed c.in-Ok.more v.0 a.answers a.leaves in
+    (s ∙ ap (λ n. swept n (box c.step_row.new.bounds)) (sym c.counted-changed.ensures.is), a.count ∙ v.1, omega (arith, c.counted-changed.ensures.up, v.2))

@@ -8,9 +8,9 @@ use Rattle.roast.proofs.rounding.shared.Goals as goal
 pub returns-then-lower-upper : goal.returns-then-lower-upper
 returns-then-lower-upper c =
     let e : Some (range (to_z w64 (of_z w64 c.max-lower.result)) (to_z w64 (of_z w64 c.min-upper.result))) ≡ shared c.args.a c.args.b = grind (arith, to_z-of_z) in
-    record { is = e; is-the-common-part = common_part c.args.a c.args.b (Some (range (to_z w64 (of_z w64 c.max-lower.result)) (to_z w64 (of_z w64 c.min-upper.result)))) e }
+    record { is = e; is_the_common_part = common_part c.args.a c.args.b (Some (range (to_z w64 (of_z w64 c.max-lower.result)) (to_z w64 (of_z w64 c.min-upper.result)))) e }
 
 pub returns-else-lower-upper : goal.returns-else-lower-upper
 returns-else-lower-upper c =
     let e : None ≡ shared c.args.a c.args.b = grind (arith, to_z-of_z) in
-    record { is = e; is-the-common-part = common_part c.args.a c.args.b None e }
+    record { is = e; is_the_common_part = common_part c.args.a c.args.b None e }

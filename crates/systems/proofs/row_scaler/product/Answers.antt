@@ -3,8 +3,8 @@ use Rattle.balance.proofs.Ranges.{held, result_held}
 use Rattle.systems.specs.RowScalersLemmas.{product_fits}
 use Rattle.systems.proofs.row_scaler.product.Goals as goal
 
-pub overflow-mul-result : goal.overflow-mul-result
-overflow-mul-result c = held ◌*ℤ◌ c.args.end c.args.factor c.ranges.end c.ranges.factor (product_fits c.args.end c.args.factor c.requires.0 c.requires.1)
+pub overflow_mul-result : goal.overflow_mul-result
+overflow_mul-result c = held ◌*ℤ◌ c.args.end c.args.factor c.ranges.end c.ranges.factor (product_fits c.args.end c.args.factor c.requires.0 c.requires.1)
 
 pub returns : goal.returns
 returns c = (result_held ◌*ℤ◌ c.args.end c.args.factor c.ranges.end c.ranges.factor _ (held ◌*ℤ◌ c.args.end c.args.factor c.ranges.end c.ranges.factor (product_fits c.args.end c.args.factor c.requires.0 c.requires.1), refl)).1

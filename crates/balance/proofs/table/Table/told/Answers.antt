@@ -12,4 +12,4 @@ returns g c =
     let t = c.args.self.now in
     let k = (c.args.row - 1) * (t.size + 1) + (c.args.column - 1) in
     let h : k < length t.cells.items = omega (arith, t.cells.ok.0, index_below t.size c.args.row c.args.column (omega arith) (omega arith) (omega arith) (omega arith)) in
-    c.tell.ensures.tells-its-ends ∙ ap g.C.Cell.ends c.index.ensures ∙ sym (get_or-map g.C.Cell.ends t.cells.items k c.index.result.now (only (pos 0)) h)
+    c.tell.ensures.tells_its_ends ∙ ap g.C.Cell.ends c.index.ensures ∙ sym (get_or-map g.C.Cell.ends t.cells.items k c.index.result.now (only (pos 0)) h)

@@ -2,5 +2,5 @@ use Rattle.std.proofs.Common.{refl, arith}
 use Rattle.roast.proofs.Narrow.{nothing_narrow}
 use Rattle.roast.proofs.bounds.Bounds.none.Goals as goal
 
-pub invariant-of-result : goal.invariant-of-result
-invariant-of-result c = (omega arith, (refl, (nothing_narrow 32, tt)))
+pub invariant_of-result : goal.invariant_of-result
+invariant_of-result c = (omega arith, (refl, (nothing_narrow 32, tt)))

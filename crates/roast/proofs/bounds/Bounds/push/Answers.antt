@@ -3,8 +3,8 @@ use Rattle.std.proofs.lemmas.List.{length-set, take_more_set}
 use Rattle.roast.proofs.Narrow.{narrow_set}
 use Rattle.roast.proofs.bounds.Bounds.push.Goals as goal
 
-pub invariant-of-self : goal.invariant-of-self
-invariant-of-self c =
+pub invariant_of-self : goal.invariant_of-self
+invariant_of-self c =
     let b = c.args.self.now in
     (omega arith, (length-set b.ranges b.count c.args.range ∙ b.whole, (narrow_set (2 ^ 30) b.ranges b.count c.args.range b.narrow c.requires.1, tt)))
 

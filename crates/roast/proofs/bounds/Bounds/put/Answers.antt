@@ -3,8 +3,8 @@ use Rattle.std.proofs.lemmas.List.{length-set}
 use Rattle.roast.proofs.Narrow.{narrow_set, take_set_any}
 use Rattle.roast.proofs.bounds.Bounds.put.Goals as goal
 
-pub invariant-of-self : goal.invariant-of-self
-invariant-of-self c =
+pub invariant_of-self : goal.invariant_of-self
+invariant_of-self c =
     let b = c.args.self.now in
     let k = c.args.node - 1 in
     (b.few, (length-set b.ranges k c.args.range ∙ b.whole, (narrow_set (2 ^ 30) b.ranges k c.args.range b.narrow c.requires.1.1, tt)))

@@ -12,11 +12,11 @@ returns-in-Ok g c =
     let us = c.args.certificate.now in
     let e = c.in-Ok.ensures in
     let o = subst (OpensExactly m us) (sym e) (opens_exactly m us) in
-    record { answers = ap opened e; leaves = ap (opened_box (box c.args.self.now.bounds)) e; opens-exactly-when-certified = o; each-end-is-the-least-bound = λ i. k_least m us i o.0.passes.dominant; keeps-the-system = refl }
+    record { answers = ap opened e; leaves = ap (opened_box (box c.args.self.now.bounds)) e; opens_exactly_when_certified = o; each_end_is_the_least_bound = λ i. k_least m us i o.0.passes.dominant; keeps_the_system = refl }
 
 pub returns-in-Err : goal.returns-in-Err
 returns-in-Err g c =
     let m = g.S.System.meaning c.args.self.now.system in
     let us = c.args.certificate.now in
     let e = c.in-Err.ensures in
-    record { answers = ap opened e; leaves = ap (opened_box (box c.args.self.now.bounds)) e; opens-exactly-when-certified = subst (OpensExactly m us) (sym e) (opens_exactly m us); each-end-is-the-least-bound = tt; keeps-the-system = refl }
+    record { answers = ap opened e; leaves = ap (opened_box (box c.args.self.now.bounds)) e; opens_exactly_when_certified = subst (OpensExactly m us) (sym e) (opens_exactly m us); each_end_is_the_least_bound = tt; keeps_the_system = refl }

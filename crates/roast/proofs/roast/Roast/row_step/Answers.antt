@@ -11,10 +11,10 @@ returns g c =
     let m = g.S.System.meaning c.args.self.now.system in
     let x = box c.args.self.now.bounds in
     let i = c.args.node in
-    let n : is_node (length x) i ≡ true = sym c.if-not-is-node.ensures.is in
-    let p = c.step-row.ensures in
+    let n : is_node (length x) i ≡ true = sym c.if-not-is_node.ensures.is in
+    let p = c.step_row.ensures in
     record {
       answers = rw n (ap changed p.answers ∙ stepped_answer x (row_step m x i));
       leaves = rw n (p.leaves ∙ stepped_box x (row_step m x i));
-      keeps-the-system = refl;
+      keeps_the_system = refl;
     }

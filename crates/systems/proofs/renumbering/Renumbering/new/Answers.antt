@@ -8,25 +8,25 @@ pub returns-in-Err : goal.returns-in-Err
 returns-in-Err g c =
     let n = (g.S.System.meaning c.args.system).size in
     let ps = vec_items c.args.order in
-    let given : order_refusal n ps ≡ order_refusal c.size.result c.deref.result.now = λ i. order_refusal (sym c.size.ensures.is-the-size i) (sym c.deref.ensures.value i) in
+    let given : order_refusal n ps ≡ order_refusal c.size.result c.deref.result.now = λ i. order_refusal (sym c.size.ensures.is_the_size i) (sym c.deref.ensures.value i) in
     let e : order_refusal n ps ≡ Some c.in-Err.refusal = given ∙ refused_by _ _ c.in-Err.ensures in
     record {
-      made-or-refused-at-the-first-entry = e;
-      made-exactly-for-a-permutation = λ p. let none = permutation_taken n ps p in let z : ◌≡◌ {A = ℕ} 0 1 = cc in omega arith;
-      holds-the-system-and-the-order = refl;
-      renumbers-the-solutions = tt;
+      made_or_refused_at_the_first_entry = e;
+      made_exactly_for_a_permutation = λ p. let none = permutation_taken n ps p in let z : ◌≡◌ {A = ℕ} 0 1 = cc in omega arith;
+      holds_the_system_and_the_order = refl;
+      renumbers_the_solutions = tt;
     }
 
 pub returns : goal.returns
 returns g c =
     let m = g.S.System.meaning c.args.system in
     let ps = vec_items c.args.order in
-    let given : order_refusal m.size ps ≡ order_refusal c.size.result c.deref.result.now = λ i. order_refusal (sym c.size.ensures.is-the-size i) (sym c.deref.ensures.value i) in
-    let none : order_refusal m.size ps ≡ None = given ∙ unrefused _ c.in-default.ensures in
+    let given : order_refusal m.size ps ≡ order_refusal c.size.result c.deref.result.now = λ i. order_refusal (sym c.size.ensures.is_the_size i) (sym c.deref.ensures.value i) in
+    let none : order_refusal m.size ps ≡ None = given ∙ unrefused _ c.in_default.ensures in
     let p = permutes m.size ps none in
     record {
-      made-or-refused-at-the-first-entry = none;
-      made-exactly-for-a-permutation = p;
-      holds-the-system-and-the-order = (refl, refl);
-      renumbers-the-solutions = renumbers_solutions m (g.met.S.System.lawful c.args.system) ps p.0 p.1;
+      made_or_refused_at_the_first_entry = none;
+      made_exactly_for_a_permutation = p;
+      holds_the_system_and_the_order = (refl, refl);
+      renumbers_the_solutions = renumbers_solutions m (g.met.S.System.lawful c.args.system) ps p.0 p.1;
     }

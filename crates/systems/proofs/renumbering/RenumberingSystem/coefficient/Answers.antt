@@ -8,4 +8,4 @@ returns g c =
     let l = c.args.self.now in
     let m = g.S.System.meaning l.system in
     let ps = vec_items l.order in
-    record { answers-by-the-meaning = c.coefficient.ensures.answers-by-the-meaning ∙ (λ i. coefficient_answer m (c.below.ensures i) (c.below-2.ensures i)) ∙ coefficient_passed ps m (λ i h. below_within ps (vec_len l.order) m.size i l.taken h.0 h.1) c.args.row c.args.column (omega arith) (omega arith) }
+    record { answers_by_the_meaning = c.coefficient.ensures.answers_by_the_meaning ∙ (λ i. coefficient_answer m (c.below.ensures i) (c.below-2.ensures i)) ∙ coefficient_passed ps m (λ i h. below_within ps (vec_len l.order) m.size i l.taken h.0 h.1) c.args.row c.args.column (omega arith) (omega arith) }

@@ -8,17 +8,17 @@ use Rattle.systems.proofs.row_scaler.RowScalerSystem.coefficient.Goals as goal
 pub scaled-requires : goal.scaled-requires
 scaled-requires g c =
     let s = c.args.self.now.system in
-    let b = coefficient_narrow (g.S.System.meaning s) (g.met.S.System.lawful s) c.args.row c.args.column c.in-ok-lower.lower c.in-ok-lower.upper c.in-ok-lower.ensures.answers-by-the-meaning in
-    scaled_narrow (2 ^ 20) c.in-ok-lower.lower c.in-ok-lower.upper c.in-Some.factor (omega arith) b c.in-Some.ensures.small
+    let b = coefficient_narrow (g.S.System.meaning s) (g.met.S.System.lawful s) c.args.row c.args.column c.in_ok-lower.lower c.in_ok-lower.upper c.in_ok-lower.ensures.answers_by_the_meaning in
+    scaled_narrow (2 ^ 20) c.in_ok-lower.lower c.in_ok-lower.upper c.in-Some.factor (omega arith) b c.in-Some.ensures.small
 
 pub returns-in-Some : goal.returns-in-Some
 returns-in-Some g c =
     let s = c.args.self.now.system in
     let m = g.S.System.meaning s in
-    let l = c.in-ok-lower.lower in
-    let u = c.in-ok-lower.upper in
+    let l = c.in_ok-lower.lower in
+    let u = c.in_ok-lower.upper in
     let f = c.in-Some.factor in
-    let h = c.in-ok-lower.ensures.answers-by-the-meaning in
+    let h = c.in_ok-lower.ensures.answers_by_the_meaning in
     let b = coefficient_narrow m (g.met.S.System.lawful s) c.args.row c.args.column l u h in
     let d = c.scaled.ensures ∙ scaled_held (2 ^ 20) l u f (omega arith) b c.in-Some.ensures.small in
-    record { answers-by-the-meaning = c.limited-coefficient.ensures.answers-within-the-limit ∙ scaled_behind (2 ^ 20) c.args.row c.args.column c.args.row c.args.column (is_node m.size c.args.row) (is_node m.size c.args.column) (m.coefficient c.args.row c.args.column) (row_factor (vec_items c.args.self.now.factors) m.size c.args.row) l u f c.scaled.result h c.in-Some.ensures.is d }
+    record { answers_by_the_meaning = c.limited_coefficient.ensures.answers_within_the_limit ∙ scaled_behind (2 ^ 20) c.args.row c.args.column c.args.row c.args.column (is_node m.size c.args.row) (is_node m.size c.args.column) (m.coefficient c.args.row c.args.column) (row_factor (vec_items c.args.self.now.factors) m.size c.args.row) l u f c.scaled.result h c.in-Some.ensures.is d }
