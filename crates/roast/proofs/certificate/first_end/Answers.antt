@@ -8,8 +8,8 @@ loop-j-init c = refl
 
 pub rounded_up-requires : goal.rounded_up-requires
 rounded_up-requires c =
-    let b = c.requires.1 c.loop-j.j c.loop-j-test.true in
-    (mul-le-mul c.requires.0.0 b.0, (b.1.0, b.1.1))
+    let b = c.requires.narrow c.loop-j.j c.loop-j-test.true in
+    (mul-le-mul c.requires.counted.0 b.0, (b.1.0, b.1.1))
 
 pub loop-j-preserved : goal.loop-j-preserved
 loop-j-preserved c =

@@ -14,7 +14,10 @@ pub accept-requires : goal.accept-requires
 accept-requires c =
     let w = c.if-not-is_node.ensures.within refl in
     let e = c.shared-range.ensures.is in
-    ((w.0, w.1), subst (λ (o : Option Range). IfSome o (Between (2 ^ 30))) (sym e) (shared_narrow (2 ^ 30) c.at.result _ c.at.ensures.narrow))
+    record {
+      at_a_node = (w.0, w.1);
+      narrow = subst (λ (o : Option Range). IfSome o (Between (2 ^ 30))) (sym e) (shared_narrow (2 ^ 30) c.at.result _ c.at.ensures.narrow);
+    }
 
 pub returns : goal.returns
 returns c =

@@ -6,7 +6,11 @@ use Rattle.roast.proofs.bounds.Bounds.push.Goals as goal
 pub invariant_of-self : goal.invariant_of-self
 invariant_of-self c =
     let b = c.args.self.now in
-    (omega arith, (length-set b.ranges b.count c.args.range ∙ b.whole, (narrow_set (2 ^ 30) b.ranges b.count c.args.range b.narrow c.requires.1, tt)))
+    record {
+      few = omega arith;
+      whole = length-set b.ranges b.count c.args.range ∙ b.whole;
+      narrow = narrow_set (2 ^ 30) b.ranges b.count c.args.range b.narrow c.requires.1;
+    }
 
 pub returns : goal.returns
 returns c =
