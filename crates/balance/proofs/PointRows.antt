@@ -8,7 +8,7 @@ use Rattle.balance.specs.declared.refusal.Refusal.{Refusal}
 use Rattle.balance.specs.declared.refusal.Refusal.TheVariants.{Point as PointRefusal}
 use Rattle.balance.specs.Ranges.{only, Between, times, total, meets}
 use Rattle.balance.specs.Meanings.{Place, told, refused, Meaning, IsNode, Told, Lawful, EveryPlaceAnswers, answer, coefficient_answer, right_side_answer, range_at}
-use Rattle.balance.specs.Places.{first, unless_refused, first_refusal, every}
+use Rattle.balance.specs.Places.{first, first_refusal, every}
 use Rattle.balance.specs.Rows.{at, found, small, terms, sum_of, row_sum}
 use Rattle.balance.specs.Points.{numerator, between, numerator_refusal, point_refusal, row, fits, possible_answer, point, Possible, TellsPossible}
 use Rattle.balance.proofs.Searches.{none_of, coefficient_at, right_side_at}

@@ -5,7 +5,7 @@ use borrow.Author.Differences.{ints}
 use Rattle.std.specs.Int.{int_min, int_max}
 use Rattle.std.proofs.lemmas.Int.{clamps, to_z-of_z}
 use Rattle.balance.specs.declared.range.Range.{Range}
-use Rattle.balance.specs.Ranges.{range, only, Ordered, Inside, ◌⊆◌, Between, Fits64, plus, minus, spanned, times, IntervalExtension}
+use Rattle.balance.specs.Ranges.{only, Ordered, Inside, ◌⊆◌, Between, Fits64, plus, minus, spanned, times, IntervalExtension}
 use Rattle.balance.proofs.Integers.{product_within, between_low, between_high}
 
 -- ---- sums and differences

@@ -1,7 +1,6 @@
 -- What an answer says of its place, and makings that refuse nothing.
 use Rattle.std.specs.Prelude.{◌≡◌, ℕ, Bool, true, false, cond, ℤ, is_some, Some, None, Ok, Err, Option, Result, refl}
 use Rattle.std.proofs.Common.{arith}
-use Rattle.balance.specs.declared.range.Range.{Range}
 use Rattle.balance.specs.declared.refusal.Refusal.{Refusal}
 use Rattle.balance.specs.declared.refusal.Refusal.TheVariants.{Node}
 use Rattle.balance.specs.Ranges.{range}

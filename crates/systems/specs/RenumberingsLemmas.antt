@@ -1,5 +1,5 @@
 -- Nodes numbered anew: which lists are permutations, and what a renumbering does to solutions.
-use Rattle.std.specs.Prelude.{◌≡◌, ℕ, zero, suc, ◌+◌, ◌-◌, ◌<◌, ◌≤◌, Bool, true, false, cond, not, ◌≢◌, ◌↔◌, List, length, ℤ, pos, is_some, Some, None, Option, ◌==◌, nat_eq, slice_index, refl}
+use Rattle.std.specs.Prelude.{◌≡◌, ℕ, zero, suc, ◌+◌, ◌-◌, ◌<◌, ◌≤◌, Bool, true, false, cond, not, ◌≢◌, ◌↔◌, List, length, pos, is_some, Some, None, Option, ◌==◌, nat_eq, slice_index, refl}
 use Rattle.std.proofs.Common.{arith, sym, ap, subst, ◌∙◌}
 use Rattle.std.proofs.Math.Decide.{ℕ_discrete}
 use Rattle.std.proofs.lemmas.Bool.{eq-eqb, ne_eqb, eqb-true}
@@ -7,7 +7,7 @@ use Rattle.std.proofs.lemmas.Bool.Decides.{nat_tests}
 use Rattle.balance.specs.declared.range.Range.{Range}
 use Rattle.balance.specs.declared.refusal.Refusal.{Refusal}
 use Rattle.balance.specs.declared.refusal.Refusal.TheVariants.{Entry}
-use Rattle.balance.specs.Ranges.{only, times, total, meets}
+use Rattle.balance.specs.Ranges.{only, times, meets}
 use Rattle.balance.specs.Meanings.{Place, told, refused, Meaning, IsNode, Lawful, Told, EveryPlaceAnswers, range_at, is_node, coefficient_answer, right_side_answer}
 use Rattle.balance.specs.Members.{Fraction, Member, Point, PickedAt}
 use Rattle.balance.specs.Places.{first, every}

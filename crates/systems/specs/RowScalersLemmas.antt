@@ -1,5 +1,5 @@
 -- Rows that are multiplied by factors: which factors are taken, and that the solutions stay.
-use Rattle.std.specs.Prelude.{◌≡◌, ℕ, ◌+◌, ◌-◌, ◌*◌, ◌^◌, ◌<◌, ◌≤◌, Bool, true, false, cond, ◌↔◌, List, length, get_or, ℤ, pos, ◌*ℤ◌, neg_ℤ, is_some, Some, None, Ok, Option, FitsSigned, ◌==◌, int_le, nat_eq, slice_index_or, unsigned_abs, refl}
+use Rattle.std.specs.Prelude.{◌≡◌, ℕ, ◌+◌, ◌-◌, ◌^◌, ◌<◌, ◌≤◌, Bool, true, false, cond, ◌↔◌, List, length, get_or, ℤ, pos, ◌*ℤ◌, neg_ℤ, is_some, Some, None, Ok, Option, FitsSigned, ◌==◌, int_le, nat_eq, slice_index_or, unsigned_abs, refl}
 use Rattle.std.proofs.Common.{arith, sym, ap, ◌∙◌, to_z, of_z}
 use Rattle.std.proofs.lemmas.Int.{ints}
 use Rattle.std.specs.Int.{w64}

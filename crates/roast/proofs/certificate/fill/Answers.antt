@@ -5,7 +5,7 @@ use Rattle.balance.specs.declared.refusal.Refusal.TheVariants.{Wide}
 use Rattle.balance.specs.Ranges.{range}
 use Rattle.balance.specs.Places.{first}
 use Rattle.balance.proofs.Searches.{first_more, first_stops}
-use Rattle.roast.specs.Certificates.{k, listed, first_range, wide_refusal}
+use Rattle.roast.specs.Certificates.{listed, first_range, wide_refusal}
 use Rattle.roast.proofs.Certified.{number_at, certified, number_within, entries_within, end_is, wide_fails, wide_passes, listed_more}
 use Rattle.roast.proofs.certificate.fill.Goals as goal
 

@@ -1,7 +1,7 @@
 use Rattle.std.proofs.Common.{◌≡◌, ◌-◌, ◌*◌, ◌^◌, ◌≤◌, get_or, pos, ◌-ℤ◌, nat_abs, sym, ◌∙◌, subst, arith, w64, SFits, to_z, of_z, rules}
 use Rattle.std.proofs.lemmas.Int.{ints, to_z-of_z}
 use Rattle.balance.specs.Meanings.{coefficient_range}
-use Rattle.roast.specs.Certificates.{mignitude, u, others}
+use Rattle.roast.specs.Certificates.{mignitude, u}
 use Rattle.roast.proofs.Certified.{certified, number_within}
 use Rattle.roast.proofs.certificate.margin.Goals as goal
 

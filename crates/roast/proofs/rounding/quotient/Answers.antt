@@ -1,7 +1,7 @@
 use Rattle.std.proofs.Common.{◌≡◌, sym, ap, ◌∙◌, subst, arith}
 use Rattle.std.proofs.lemmas.Int.{ints}
 use Rattle.balance.specs.declared.range.Range.{Range}
-use Rattle.roast.specs.Rounding.{quotient, quotient_above, negated, RoundedOutward}
+use Rattle.roast.specs.Rounding.{quotient, quotient_above, RoundedOutward}
 use Rattle.roast.proofs.Quotients.{above_test, below_test, not_zero, quotient_rounds}
 use Rattle.roast.proofs.rounding.quotient.Goals as goal
 

@@ -1,4 +1,4 @@
-use Rattle.std.proofs.Common.{◌≡◌, ◌^◌, sym, subst, arith}
+use Rattle.std.proofs.Common.{◌^◌, sym, subst, arith}
 use Rattle.balance.specs.Ranges.{Between}
 use Rattle.systems.specs.NetworksLemmas.{Taken, link_small, link_negated_fits, outside_small, outside_product_fits, amount_small}
 use Rattle.systems.proofs.network.added.Goals as goal

@@ -1,4 +1,4 @@
-use Rattle.std.proofs.Common.{◌≡◌, Ok, Option, sym, ap, ◌∙◌, arith}
+use Rattle.std.proofs.Common.{Ok, Option, sym, ap, arith}
 use Rattle.balance.specs.declared.refusal.Refusal.{Refusal}
 use Rattle.balance.specs.Places.{unless_refused}
 use Rattle.systems.specs.RenumberingsLemmas.{entries_more, stops_outside, stops_at_repeat}

@@ -1,4 +1,4 @@
-use Rattle.std.proofs.Common.{◌≡◌, ◌+ℤ◌, w64, SFits, rules}
+use Rattle.std.proofs.Common.{◌+ℤ◌, rules}
 use Rattle.balance.specs.Ranges.{range}
 use Rattle.balance.proofs.Ranges.{held, result_held, plus_extends}
 use Rattle.balance.proofs.range.Range.checked_add.Goals as goal

@@ -1,6 +1,6 @@
 use Rattle.std.proofs.Common.{◌≡◌, ℕ, Some, None, vec_items, sym, refl, ◌∙◌, arith}
 use Rattle.balance.proofs.Searches.{unrefused, refused_by}
-use Rattle.systems.specs.Renumberings.{order_refusal, IsPermutation}
+use Rattle.systems.specs.Renumberings.{order_refusal}
 use Rattle.systems.specs.RenumberingsLemmas.{permutes, permutation_taken, renumbers_solutions}
 use Rattle.systems.proofs.renumbering.Renumbering.new.Goals as goal
 

@@ -1,4 +1,4 @@
-use Rattle.std.proofs.Common.{◌≡◌, vec_items, vec_len, ◌∙◌, arith}
+use Rattle.std.proofs.Common.{vec_items, vec_len, ◌∙◌, arith}
 use Rattle.balance.specs.Meanings.{coefficient_answer}
 use Rattle.systems.specs.RenumberingsLemmas.{below_within, coefficient_passed}
 use Rattle.systems.proofs.renumbering.RenumberingSystem.coefficient.Goals as goal

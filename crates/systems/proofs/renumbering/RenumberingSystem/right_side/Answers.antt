@@ -1,4 +1,4 @@
-use Rattle.std.proofs.Common.{◌≡◌, vec_items, vec_len, ap, ◌∙◌, arith}
+use Rattle.std.proofs.Common.{vec_items, vec_len, ap, ◌∙◌, arith}
 use Rattle.balance.specs.Meanings.{right_side_answer}
 use Rattle.systems.specs.RenumberingsLemmas.{below_within, right_side_passed}
 use Rattle.systems.proofs.renumbering.RenumberingSystem.right_side.Goals as goal

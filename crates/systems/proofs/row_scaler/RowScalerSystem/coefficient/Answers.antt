@@ -1,5 +1,5 @@
-use Rattle.std.proofs.Common.{◌≡◌, ◌+◌, ◌^◌, true, vec_items, sym, ap, ◌∙◌, arith}
-use Rattle.balance.specs.Meanings.{is_node, answer, limited}
+use Rattle.std.proofs.Common.{◌^◌, vec_items, ◌∙◌, arith}
+use Rattle.balance.specs.Meanings.{is_node}
 use Rattle.balance.proofs.RowSums.{coefficient_narrow}
 use Rattle.systems.specs.RowScalers.{row_factor}
 use Rattle.systems.specs.RowScalersLemmas.{scaled_held, scaled_narrow, scaled_behind}

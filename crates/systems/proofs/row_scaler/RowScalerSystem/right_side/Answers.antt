@@ -1,4 +1,4 @@
-use Rattle.std.proofs.Common.{◌≡◌, ◌+◌, ◌^◌, true, vec_items, sym, ap, ◌∙◌, arith}
+use Rattle.std.proofs.Common.{◌+◌, ◌^◌, true, vec_items, ap, ◌∙◌, arith}
 use Rattle.balance.specs.Meanings.{is_node, answer, limited}
 use Rattle.balance.proofs.RowSums.{right_side_narrow}
 use Rattle.systems.specs.RowScalers.{row_factor}
