@@ -1,4 +1,5 @@
 pub mod Integers
+pub mod Nodes
 pub mod Ranges
 pub mod FractionSums
 pub mod Picks
@@ -6,3 +7,4 @@ pub mod PointRows
 pub mod Points
 pub mod RowSums
 pub mod Searches
+pub mod Entries

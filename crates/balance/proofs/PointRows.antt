@@ -1,17 +1,18 @@
 -- The test of a point, and the sums of its rows.
-use Rattle.std.proofs.Common.{◌≡◌, ℕ, zero, suc, ◌+◌, ◌-◌, ◌^◌, ◌<◌, ◌≤◌, Bool, true, false, cond, T, eqb, ◌↔◌, List, map, length, get_or, ℤ, pos, negsuc, neg_ℤ, nat_abs, Some, None, Ok, Option, sym, refl, ap, ◌∙◌, subst, arith}
+use Rattle.std.proofs.Common.{◌≡◌, ℕ, zero, suc, ◌-◌, ◌^◌, ◌<◌, ◌≤◌, Bool, true, false, cond, T, eqb, ◌↔◌, List, map, length, ℤ, pos, negsuc, neg_ℤ, nat_abs, Some, None, Ok, Option, sym, refl, ap, ◌∙◌, subst, arith}
 use borrow.Author.Differences.{ints}
 use Rattle.std.proofs.lemmas.Bool.{eq-eqb, ne_eqb, eqb-true}
 use Rattle.std.proofs.lemmas.List.{get_or-map, length-map}
 use Rattle.balance.specs.declared.range.Range.{Range}
 use Rattle.balance.specs.declared.refusal.Refusal.{Refusal}
 use Rattle.balance.specs.declared.refusal.Refusal.TheVariants.{Point as PointRefusal}
-use Rattle.balance.specs.Ranges.{only, Between, times, total, meets}
+use Rattle.balance.specs.Ranges.{only, Between, Fits64, times, total, meets}
 use Rattle.balance.specs.Meanings.{Place, told, refused, Meaning, IsNode, Told, Lawful, EveryPlaceAnswers, answer, coefficient_answer, right_side_answer, range_at}
 use Rattle.balance.specs.Places.{first, first_refusal, every}
 use Rattle.balance.specs.Rows.{at, found, small, terms, sum_of, row_sum}
 use Rattle.balance.specs.Points.{numerator, between, numerator_refusal, point_refusal, row, fits, possible_answer, point, Possible, TellsPossible}
 use Rattle.balance.proofs.Searches.{none_of, coefficient_at, right_side_at}
+use Rattle.balance.proofs.Ranges.{times_between_bounds, narrow_fits}
 use Rattle.balance.proofs.RowSums.{row_sum_is}
 use Rattle.balance.proofs.Points.{fits_exactly}
 
@@ -23,18 +24,8 @@ numerator_between p = between (neg_ℤ (pos (2 ^ 37))) (pos (2 ^ 37)) p
 abbrev pub denominator_between : ℤ → Bool
 denominator_between q = between (pos 1) (pos (2 ^ 20)) q
 
-numerator_at : (ps : List ℤ) (j : ℕ) → numerator ps (j + 1) ≡ get_or ps j (pos 0)
-numerator_at ps j = let e : j + 1 - 1 ≡ j = omega arith in ap (λ n. get_or ps n (pos 0)) e
-
-module _ (ps : List ℤ) (j : ℕ) (p : ℤ) (is : p ≡ get_or ps j (pos 0)) where
-  pub numerator_passes : numerator_between p ≡ true → numerator_refusal ps (j + 1) ≡ None
-  numerator_passes h = let t : numerator_between (numerator ps (j + 1)) ≡ true = ap numerator_between (numerator_at ps j ∙ sym is) ∙ h in rw t
-
-  pub numerator_fails : numerator_between p ≡ false → numerator_refusal ps (j + 1) ≡ Some (PointRefusal (j + 1))
-  numerator_fails h = let t : numerator_between (numerator ps (j + 1)) ≡ false = ap numerator_between (numerator_at ps j ∙ sym is) ∙ h in rw t
-
-pub point_refusal_is : (n : ℕ) (ps : List ℤ) (q : ℤ) (o : Option Refusal) → length ps ≡ n → denominator_between q ≡ true → first (numerator_refusal ps) n ≡ o → point_refusal n ps q ≡ o
-point_refusal_is n ps q o h k e = let t : eqb (length ps) n ≡ true = eq-eqb (length ps) n h in rw (t, k) e
+pub point_refusal_is : (n : ℕ) (ps : List ℤ) (q : ℤ) (o : Option Refusal) → length ps ≡ n → denominator_between q ≡ true → first (numerator_refusal ps) (length ps) ≡ o → point_refusal n ps q ≡ o
+point_refusal_is n ps q o h k e = let t : eqb (length ps) n ≡ true = eq-eqb (length ps) n h in rw (t, k) (rw h at e)
 
 pub record Allowed (n : ℕ) (ps : List ℤ) (q : ℤ) : Type 0 where
   pub count : length ps ≡ n
@@ -46,18 +37,24 @@ allowed n ps q h = by (eqb (length ps) n) (denominator_between q) refl refl h
   where
     passes : (b : Bool) (j : ℕ) → numerator_between (numerator ps j) ≡ b → cond b None (Some (PointRefusal j)) ≡ None → b ≡ true
     passes true j e k = refl
-    passes false j e k = let z : ◌≡◌ {A = ℕ} 0 1 = cc in absurd (omega arith)
+    passes false j e k = cc
 
     by : (s t : Bool) → eqb (length ps) n ≡ s → denominator_between q ≡ t → cond s (cond t (first (numerator_refusal ps) n) (Some (PointRefusal 0))) (Some (PointRefusal 0)) ≡ None → Allowed n ps q
     by true true e f k = record { count = eqb-true (length ps) n e; denominator = f; numerators = λ j a b. passes (numerator_between (numerator ps j)) j refl (none_of (numerator_refusal ps) n k j a b) }
-    by true false e f k = let z : ◌≡◌ {A = ℕ} 0 1 = cc in absurd (omega arith)
-    by false t e f k = let z : ◌≡◌ {A = ℕ} 0 1 = cc in absurd (omega arith)
+    by true false e f k = cc
+    by false t e f k = cc
+
+pub allowed_over : (n : ℕ) (ps : List ℤ) (q : ℤ) → length ps ≡ n → point_refusal (length ps) ps q ≡ None → Allowed n ps q
+allowed_over n ps q e h = allowed n ps q (subst (λ k. point_refusal k ps q ≡ None) e h)
 
 pub denominator_above : (q : ℤ) → denominator_between q ≡ true → (0 < nat_abs q) × (q ≡ pos (nat_abs q)) × (nat_abs q ≤ 2 ^ 20)
 denominator_above (pos n) h = (grind (arith, ints), refl, grind (arith, ints))
 denominator_above (negsuc n) h = absurd (grind (arith, ints))
 
 -- ---- the sums of its rows
+
+none_is_some : {r : Range} → ◌≡◌ {A = Option Range} None (Some r) → ⊥
+none_is_some h = cc
 
 pub answer_found : (p : Place) → Told p → found (answer p) ≡ Some (range_at p)
 answer_found (told r) t = refl
@@ -84,20 +81,27 @@ module _ (m : Meaning) (answers : EveryPlaceAnswers m) (ps : List ℤ) (q : ℤ)
   pub side_there : found (right_side_answer m i) ≡ Some (range_at (m.right_side i))
   side_there = ap found (right_side_at m i node) ∙ answer_found (m.right_side i) (answers.right_sides i node)
 
-  -- the code's range for q
-  pub denominator_narrow : (r : Range) → r ≡ only q → Between (2 ^ 20) r
-  denominator_narrow r e =
-      let d = denominator_above q allows.denominator in
-      subst (Between (2 ^ 20)) (sym e) (omega (arith, ints), omega (arith, ints), omega (arith, ints))
+  pub sum_told : None ≡ row_sum m (map only ps) i 0 → ⊥
+  sum_told e = none_is_some (e ∙ row_there)
 
-  pub fits_is : (sum side over : Range) → Some sum ≡ row_sum m (map only ps) i 0 → Some side ≡ found (right_side_answer m i) → over ≡ only q → meets sum (times side over) ≡ fits m (numerator ps) q i
-  fits_is sum side over e f d =
-      let s : sum ≡ row m (numerator ps) i = same_some (e ∙ row_there) in
-      let t : side ≡ range_at (m.right_side i) = same_some (f ∙ side_there) in
-      (λ k. meets (s k) (times (t k) (d k)))
-    where
-      same_some : {a b : Range} → Some a ≡ Some b → a ≡ b
-      same_some h = cc
+  pub side_told : None ≡ found (right_side_answer m i) → ⊥
+  side_told e = none_is_some (e ∙ side_there)
+
+  -- the code's range for q
+  module _ (told : Range) (is : told ≡ only q) where
+    pub product_fits : (side : Range) → Between (2 ^ 42) side → Fits64 (times side told)
+    product_fits side b =
+        let d = denominator_above q allows.denominator in
+        narrow_fits (2 ^ 62) (times side told) (omega arith) (times_between_bounds side told (2 ^ 42) (2 ^ 20) b (subst (Between (2 ^ 20)) (sym is) (omega (arith, ints), omega (arith, ints), omega (arith, ints))))
+
+    pub fits_is : (sum side scaled : Range) → Some sum ≡ row_sum m (map only ps) i 0 → Some side ≡ found (right_side_answer m i) → scaled ≡ times side told → meets sum scaled ≡ fits m (numerator ps) q i
+    fits_is sum side scaled e f p =
+        let s : sum ≡ row m (numerator ps) i = same_some (e ∙ row_there) in
+        let t : side ≡ range_at (m.right_side i) = same_some (f ∙ side_there) in
+        (λ k. meets (s k) ((p ∙ (λ l. times (t l) (is l))) k))
+      where
+        same_some : {a b : Range} → Some a ≡ Some b → a ≡ b
+        same_some h = cc
 
 -- ---- the answer
 

@@ -1,5 +1,5 @@
 -- A point is a solution of some member system exactly if it fits every row.
-use Rattle.std.proofs.Common.{◌≡◌, ℕ, zero, suc, ◌+◌, ◌*◌, ◌^◌, ◌<◌, ◌≤◌, Bool, true, false, cond, T, ◌↔◌, ℤ, pos, ◌*ℤ◌, ◌≤ℤ◌, sym, refl, ap, subst, mul-le-mul_right, mul-pos, arith}
+use Rattle.std.proofs.Common.{◌≡◌, ℕ, zero, suc, ◌+◌, ◌*◌, ◌^◌, ◌<◌, ◌≤◌, Bool, true, false, cond, T, IsTrue, ◌↔◌, ℤ, pos, ◌*ℤ◌, ◌≤ℤ◌, sym, refl, ap, subst, mul-le-mul_right, mul-pos, arith}
 use native.Mathlib.Decide.{ℕ_discrete}
 use borrow.Author.Differences.{ints, up, down, at_most_in, product_is}
 use Rattle.std.specs.Int.{int_max}
@@ -120,20 +120,19 @@ every_passes t (suc n) h i p q = by (every t n) refl (ℕ_discrete i (suc n)) h 
     by : (b : Bool) → every t n ≡ b → Dec (i ≡ suc n) → cond b (t (suc n)) false ≡ true → (every t n ≡ true → i ≤ n → t i ≡ true) → t i ≡ true
     by true e (yes r) k rest = rw r k
     by true e (no r) k rest = rest e (omega arith)
-    by false e d k rest = let z : ◌≡◌ {A = ℕ} 0 1 = cc in absurd (omega arith)
+    by false e d k rest = cc
 
 pub passes_every : (t : ℕ → Bool) (n : ℕ) → ((i : ℕ) → 1 ≤ i → i ≤ n → t i ≡ true) → every t n ≡ true
 passes_every t zero h = refl
 passes_every t (suc n) h = rw (passes_every t n (λ i p q. h i p (omega arith)), h (suc n) (omega arith) (omega arith))
 
-pub every_more : (t : ℕ → Bool) (k : ℕ) → every t k ≡ true → t (k + 1) ≡ true → every t (k + 1) ≡ true
-every_more t k h p = let s : k + 1 ≡ suc k = omega arith in rw s (rw h (rw s at p))
-
-pub every_stops : (t : ℕ → Bool) (k n : ℕ) → t (k + 1) ≡ false → k < n → every t n ≡ false
-every_stops t k n h l = by (every t n) refl
+-- what is true exactly if every test passes
+pub every_is : (b : Bool) (t : ℕ → Bool) (n : ℕ) → (IsTrue b ↔ ((i : ℕ) → 1 ≤ i → i ≤ n → t i ≡ true)) → b ≡ every t n
+every_is true t n h = sym (passes_every t n (h.0 refl))
+every_is false t n h = by (every t n) refl
   where
-    by : (b : Bool) → every t n ≡ b → b ≡ false
-    by true e = let p = every_passes t n e (k + 1) (omega arith) (omega arith) in let z : ◌≡◌ {A = ℕ} 0 1 = cc in absurd (omega arith)
+    by : (e : Bool) → every t n ≡ e → false ≡ e
+    by true e = let z : false ≡ true = h.1 (every_passes t n e) in cc
     by false e = refl
 
 pub fits_exactly : (m : Meaning) → Lawful m → EveryPlaceAnswers m → (x : Point) → T (every (fits m x.numerator (pos x.over)) m.size) ↔ Possible m x

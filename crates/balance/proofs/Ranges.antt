@@ -1,5 +1,5 @@
 -- The arithmetic of ranges extends that of whole numbers, and stays within bounds.
-use Rattle.std.proofs.Common.{◌≡◌, ℕ, ◌*◌, ◌^◌, ◌≤◌, ℤ, ◌+ℤ◌, ◌-ℤ◌, ◌*ℤ◌, nat_abs, ◌≤ℤ◌, ap, ◌∙◌, subst, arith, w64, SFits, to_z, of_z}
+use Rattle.std.proofs.Common.{◌≡◌, ℕ, ◌*◌, ◌^◌, ◌≤◌, ℤ, ◌+ℤ◌, ◌-ℤ◌, ◌*ℤ◌, nat_abs, ◌≤ℤ◌, Option, Some, None, SomeIff, ap, ◌∙◌, subst, arith, w64, SFits, to_z, of_z}
 use lib.IntN.{*ℤ_comm}
 use borrow.Author.Differences.{ints}
 use Rattle.std.specs.Int.{int_min, int_max}
@@ -118,10 +118,6 @@ products_fit a b h = four (least p q s t) (most p q s t) h.0 h.1
 pub four_fit : (p q s t : ℤ) → SFits w64 p → SFits w64 q → SFits w64 s → SFits w64 t → Fits64 (spanned p q s t)
 four_fit p q s t f g h k = (omega (arith, ints, clamps), omega (arith, ints, clamps))
 
--- a product of two numbers as the code holds them
-pub product_fits : (x y : ℤ) → SFits w64 x → SFits w64 y → SFits w64 (x *ℤ y) → SFits w64 (to_z w64 (of_z w64 x) *ℤ to_z w64 (of_z w64 y))
-product_fits x y f g h = simp to_z-of_z h
-
 -- an operation on two numbers as the code holds them
 module _ (op : ℤ → ℤ → ℤ) (x y : ℤ) (f : SFits w64 x) (g : SFits w64 y) where
   pub held : SFits w64 (op x y) → SFits w64 (op (to_z w64 (of_z w64 x)) (to_z w64 (of_z w64 y)))
@@ -133,3 +129,8 @@ module _ (op : ℤ → ℤ → ℤ) (x y : ℤ) (f : SFits w64 x) (g : SFits w64
       let k : SFits w64 (op x y) = subst (SFits w64) e h.0 in
       let l : r ≡ op x y = h.1 ∙ e in
       (k, ap (λ z. to_z w64 (of_z w64 z)) l ∙ to_z-of_z w64 (op x y) k)
+
+-- a result that fits is answered
+pub answered : {T : Type 0} (o : Option T) (P : Type 0) (v : T) → SomeIff o P v → P → o ≡ Some v
+answered None P v h p = absurd (h p)
+answered (Some x) P v h p = ap (λ y. Some y) h.1

@@ -1,5 +1,5 @@
 -- What an answer says of its place, and the sum of a row term by term.
-use Rattle.std.proofs.Common.{◌≡◌, ℕ, zero, suc, ◌+◌, ◌-◌, ◌^◌, ◌<◌, ◌≤◌, Bool, true, false, cond, eqb, List, map, length, get_or, ℤ, pos, ◌≤ℤ◌, Some, None, Ok, Err, Option, sym, refl, ap, ◌∙◌, subst, arith, w64, to_z, of_z}
+use Rattle.std.proofs.Common.{◌≡◌, ℕ, zero, suc, ◌+◌, ◌-◌, ◌^◌, ◌<◌, ◌≤◌, Bool, true, false, cond, eqb, List, map, length, get_or, ℤ, pos, ◌≤ℤ◌, Some, None, Ok, Err, Option, sym, refl, ap, ◌∙◌, subst, arith}
 use native.Mathlib.Decide.{ℕ_discrete}
 use borrow.Author.Differences.{ints}
 use Rattle.std.proofs.lemmas.Bool.Decides.{nat_tests}
@@ -8,7 +8,7 @@ use Rattle.std.proofs.lemmas.List.{get_or-map}
 use Rattle.balance.specs.declared.range.Range.{Range}
 use Rattle.balance.specs.declared.refusal.Refusal.TheVariants.{Node}
 use Rattle.balance.specs.Ranges.{range, only, Between, plus, times}
-use Rattle.balance.specs.Meanings.{Place, told, refused, Meaning, Within, Lawful, answer, is_node, coefficient_answer, right_side_answer}
+use Rattle.balance.specs.Meanings.{Place, told, refused, Meaning, Within, Lawful, answer, is_node, coefficient_answer}
 use Rattle.balance.specs.Rows.{found, small, term, added, sum_of, at, terms, row_sum}
 
 -- ---- an answer, and the limits of its place
@@ -19,13 +19,13 @@ narrow_answer limit (told r) l u w h =
     let p = ap (λ x. x.0) e in
     let q = ap (λ x. x.1) e in
     (omega (arith, ints), omega (arith, ints), omega (arith, ints))
-narrow_answer limit (refused a b c) l u w h = let z : ◌≡◌ {A = ℕ} 0 1 = cc in absurd (omega arith)
+narrow_answer limit (refused a b c) l u w h = cc
 
 -- the tests of two nodes stand before the answer
 narrow_behind : (limit : ℕ) (p : Place) (i j : ℕ) (l u : ℤ) (s t : Bool) → (s ≡ true → t ≡ true → Within limit p) → Ok (l, u) ≡ cond s (cond t (answer p) (Err (Node j))) (Err (Node i)) → Between limit (range l u)
 narrow_behind limit p i j l u true true w h = narrow_answer limit p l u (w refl refl) h
-narrow_behind limit p i j l u true false w h = let z : ◌≡◌ {A = ℕ} 0 1 = cc in absurd (omega arith)
-narrow_behind limit p i j l u false t w h = let z : ◌≡◌ {A = ℕ} 0 1 = cc in absurd (omega arith)
+narrow_behind limit p i j l u true false w h = cc
+narrow_behind limit p i j l u false t w h = cc
 
 node_of : (n i : ℕ) → is_node n i ≡ true → (1 ≤ i) × (i ≤ n)
 node_of n i h = (grind (arith, nat_tests), grind (arith, nat_tests))
@@ -34,23 +34,14 @@ module _ (m : Meaning) (lawful : Lawful m) where
   pub coefficient_narrow : (i j : ℕ) (l u : ℤ) → Ok (l, u) ≡ coefficient_answer m i j → Between (2 ^ 20) (range l u)
   coefficient_narrow i j l u h = narrow_behind (2 ^ 20) (m.coefficient i j) i j l u (is_node m.size i) (is_node m.size j) (λ s t. lawful.coefficients i j (node_of m.size i s) (node_of m.size j t)) h
 
-  pub right_side_narrow : (i : ℕ) (l u : ℤ) → Ok (l, u) ≡ right_side_answer m i → Between (2 ^ 42) (range l u)
-  right_side_narrow i l u h = narrow_behind (2 ^ 42) (m.right_side i) i i l u (is_node m.size i) true (λ s t. lawful.right_sides i (node_of m.size i s)) h
-
--- the two ends as the code holds them
-pub held : (limit : ℕ) (l u : ℤ) → limit ≤ 2 ^ 62 → Between limit (range l u) → range (to_z w64 (of_z w64 l)) (to_z w64 (of_z w64 u)) ≡ range l u
-held limit l u h b =
-    let p : to_z w64 (of_z w64 l) ≡ l = omega (arith, ints) in
-    let q : to_z w64 (of_z w64 u) ≡ u = omega (arith, ints) in
-    λ i. range (p i) (q i)
-
 -- ---- terms
 
+-- no end beyond ±2^37, as the code and the definition test it
 pub small_between : (x : Range) → small x ≡ true → x.lower ≤ℤ x.upper → Between (2 ^ 37) x
 small_between x h o = (grind (arith, ints), o, grind (arith, ints))
 
-pub term_is : (m : Meaning) (i without j : ℕ) (x a r : Range) → (j ≡ without → ⊥) → Some a ≡ found (coefficient_answer m i j) → small x ≡ true → r ≡ times a x → Some r ≡ term m i without j x
-term_is m i without j x a r n e s p = let t : eqb j without ≡ false = ne_eqb j without n in rw (t, sym e, s, p)
+pub term_is : (m : Meaning) (i without j : ℕ) (x a : Range) (o : Option Range) → (j ≡ without → ⊥) → Some a ≡ found (coefficient_answer m i j) → small x ≡ true → o ≡ Some (times a x) → o ≡ term m i without j x
+term_is m i without j x a o n e s p = let t : eqb j without ≡ false = ne_eqb j without n in rw (t, sym e, s, p)
 
 -- ---- sums of terms
 
@@ -79,9 +70,10 @@ at_cell ends x j c h e =
     let k : j + 1 - 1 ≡ j = omega arith in
     ap (λ n. get_or (map ends x) n (only (pos 0))) k ∙ get_or-map ends x j c (only (pos 0)) h ∙ ap ends (sym e)
 
+-- the term of a cell is the row's term there
+pub term_at : {C : Type 0} (m : Meaning) (ends : C → Range) (x : List C) (i without j : ℕ) (c : C) (r : Range) (o : Option Range) → j < length x → c ≡ get_or x j c → r ≡ ends c → o ≡ term m i without (j + 1) r → o ≡ terms m (map ends x) i without (j + 1)
+term_at m ends x i without j c r o h e t k = k ∙ ap (term m i without (j + 1)) (t ∙ sym (at_cell ends x j c h e))
+
 module _ (m : Meaning) (xs : List Range) (i without : ℕ) where
   pub row_sum_is : (o : Option Range) → length xs ≡ m.size → sum_of (terms m xs i without) (length xs) ≡ o → row_sum m xs i without ≡ o
   row_sum_is o h e = let t : eqb (length xs) m.size ≡ true = eq-eqb (length xs) m.size h in rw t e
-
-  pub row_sum_none : (length xs ≡ m.size → ⊥) → row_sum m xs i without ≡ None
-  row_sum_none h = let t : eqb (length xs) m.size ≡ false = ne_eqb (length xs) m.size h in rw t

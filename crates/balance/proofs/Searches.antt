@@ -1,5 +1,5 @@
 -- The search for the first refused place.
-use Rattle.std.proofs.Common.{◌≡◌, ℕ, zero, suc, ◌+◌, ◌<◌, ◌≤◌, Bool, true, false, cond, leb, ℤ, Some, None, Ok, Err, Option, Result, sym, refl, ap, ◌∙◌, subst, ⊎_elim, arith}
+use Rattle.std.proofs.Common.{◌≡◌, ℕ, zero, suc, ◌+◌, ◌-◌, ◌<◌, ◌≤◌, Bool, true, false, cond, leb, ℤ, Some, None, Ok, Err, Option, Result, sym, refl, ap, ◌∙◌, subst, ⊎_elim, arith}
 use native.Mathlib.Decide.{ℕ_discrete}
 use Rattle.std.proofs.lemmas.Bool.Decides.{nat_tests}
 use Rattle.balance.specs.declared.refusal.Refusal.{Refusal}
@@ -22,13 +22,20 @@ first_stops f e k (suc n) h p l = go (ℕ_discrete k n) (λ q. first_stops f e k
         rw none (rw s at p)
     go (no q) rest = rw (rest (omega arith))
 
+-- the same, where the next is number k
+pub first_next : (f : ℕ → Option Refusal) (k n : ℕ) → 1 ≤ k → n ≡ k → first f (k - 1) ≡ None → f k ≡ None → first f n ≡ None
+first_next f k n p q h e = let s : k - 1 + 1 ≡ k = omega arith in subst (λ i. first f i ≡ None) (s ∙ sym q) (first_more f (k - 1) h (subst (λ i. f i ≡ None) (sym s) e))
+
+pub first_ends : (f : ℕ → Option Refusal) (e : Refusal) (k n : ℕ) → 1 ≤ k → k ≤ n → first f (k - 1) ≡ None → f k ≡ Some e → first f n ≡ Some e
+first_ends f e k n p q h t = let s : k ≡ k - 1 + 1 = omega arith in first_stops f e (k - 1) n h (subst (λ i. f i ≡ Some e) s t) (omega arith)
+
 -- an answer that nothing, or something, goes before
 pub unrefused : (o : Option Refusal) → Ok tt ≡ unless_refused {X = Unit {0}} o (Ok tt) → o ≡ None
 unrefused None h = refl
-unrefused (Some e) h = let z : ◌≡◌ {A = ℕ} 0 1 = cc in absurd (omega arith)
+unrefused (Some e) h = cc
 
 pub refused_by : (o : Option Refusal) (e : Refusal) → Err e ≡ unless_refused {X = Unit {0}} o (Ok tt) → o ≡ Some e
-refused_by None e h = let z : ◌≡◌ {A = ℕ} 0 1 = cc in absurd (omega arith)
+refused_by None e h = cc
 refused_by (Some x) e h = cc
 
 -- the first k of f that refuses
@@ -46,10 +53,10 @@ none_of f (suc n) h j p q = by (first f n) refl (ℕ_discrete j (suc n)) (λ e r
     by : (o : Option Refusal) → first f n ≡ o → Dec (j ≡ suc n) → (first f n ≡ None → j ≤ n → f j ≡ None) → f j ≡ None
     by None e (yes r) rest = let t : or_else (first f n) (f (suc n)) ≡ None = h in rw r (rw e at t)
     by None e (no r) rest = rest e (omega arith)
-    by (Some x) e d rest = let t : or_else (first f n) (f (suc n)) ≡ None = h in let z : ◌≡◌ {A = ℕ} 0 1 = cc (ap (λ o. or_else o (f (suc n))) e) in absurd (omega arith)
+    by (Some x) e d rest = let t : or_else (first f n) (f (suc n)) ≡ None = h in cc (ap (λ o. or_else o (f (suc n))) e)
 
 pub found : (f : ℕ → Option Refusal) (n : ℕ) (e : Refusal) → first f n ≡ Some e → Found f n e
-found f zero e h = let z : ◌≡◌ {A = ℕ} 0 1 = cc in absurd (omega arith)
+found f zero e h = cc
 found f (suc n) e h = by (first f n) refl (λ p. found f n e p)
   where
     t : or_else (first f n) (f (suc n)) ≡ Some e
@@ -74,15 +81,15 @@ right_side_at m i (p, q) = rw (is_a_node m.size i p q)
 
 answered : (p : Place) (e : ℤ × ℤ) → Ok e ≡ answer p → refusal_at p ≡ None
 answered (told r) e h = refl
-answered (refused a b c) e h = let z : ◌≡◌ {A = ℕ} 0 1 = cc in absurd (omega arith)
+answered (refused a b c) e h = cc
 
 not_answered : (p : Place) (e : Refusal) → Err e ≡ answer p → refusal_at p ≡ Some e
-not_answered (told r) e h = let z : ◌≡◌ {A = ℕ} 0 1 = cc in absurd (omega arith)
+not_answered (told r) e h = cc
 not_answered (refused a b c) e h = cc
 
 tells_here : (p : Place) → refusal_at p ≡ None → Told p
 tells_here (told r) h = tt
-tells_here (refused a b c) h = let z : ◌≡◌ {A = ℕ} 0 1 = cc in absurd (omega arith)
+tells_here (refused a b c) h = cc
 
 -- a coefficient and a right side that answer, and that do not
 module _ (m : Meaning) (i : ℕ) (node : IsNode m i) where
@@ -109,7 +116,7 @@ module _ (m : Meaning) where
     where
       by : (o : Option Refusal) → first (columns i) m.size ≡ o → or_else o (refusal_at (m.right_side i)) ≡ None → (first (columns i) m.size ≡ None) × (refusal_at (m.right_side i) ≡ None)
       by None e t = (e, t)
-      by (Some x) e t = let z : ◌≡◌ {A = ℕ} 0 1 = cc in absurd (omega arith)
+      by (Some x) e t = cc
 
   pub all_answer : first_refusal m ≡ None → EveryPlaceAnswers m
   all_answer h = record {
@@ -167,13 +174,24 @@ module _ (m : Meaning) where
 
   -- ---- the loops
 
-  -- i rows answer, and j columns of the next
-  module _ (i j : ℕ) (rows : first (row_refusal m) i ≡ None) (row : first (columns (i + 1)) j ≡ None) (more : i < m.size) where
-    pub stops_at_column : (e : Refusal) → columns (i + 1) (j + 1) ≡ Some e → j < m.size → first_refusal m ≡ Some e
-    stops_at_column e h l = first_stops (row_refusal m) e i m.size rows (rw (first_stops (columns (i + 1)) e j m.size row h l)) more
+  -- the rows before this one answer
+  module _ (row : ℕ) (node : IsNode m row) (rows : first (row_refusal m) (row - 1) ≡ None) where
+    pub ends_at_column : (column : ℕ) (e : Refusal) → IsNode m column → first (columns row) (column - 1) ≡ None → Err e ≡ coefficient_answer m row column → first_refusal m ≡ Some e
+    ends_at_column column e h before a = first_ends (row_refusal m) e row m.size node.0 node.1 rows (rw (first_ends (columns row) e column m.size h.0 h.1 before (column_refuses m row node column e h a)))
 
-    pub side_reached : j ≡ m.size → row_refusal m (i + 1) ≡ refusal_at (m.right_side (i + 1))
-    side_reached e = let none : first (columns (i + 1)) m.size ≡ None = rw e at row in rw none
+    pub column_passes : (column n : ℕ) (e : ℤ × ℤ) → IsNode m column → n ≡ column → first (columns row) (column - 1) ≡ None → Ok e ≡ coefficient_answer m row column → first (columns row) n ≡ None
+    column_passes column n e h q before a = first_next (columns row) column n h.0 q before (column_answers m row node column e h a)
+
+    pub columns_pass : (column : ℕ) → column ≡ m.size + 1 → first (columns row) (column - 1) ≡ None → first (columns row) m.size ≡ None
+    columns_pass column q h = let s : column - 1 ≡ m.size = omega arith in subst (λ n. first (columns row) n ≡ None) s h
+
+    -- and its columns
+    module _ (row_before : first (columns row) m.size ≡ None) where
+      pub row_passes : (n : ℕ) (e : ℤ × ℤ) → n ≡ row → Ok e ≡ right_side_answer m row → first (row_refusal m) n ≡ None
+      row_passes n e q a = first_next (row_refusal m) row n node.0 q rows (rw row_before (side_answers m row node e a))
+
+      pub ends_at_side : (e : Refusal) → Err e ≡ right_side_answer m row → first_refusal m ≡ Some e
+      ends_at_side e a = first_ends (row_refusal m) e row m.size node.0 node.1 rows (rw row_before (side_refuses m row node e a))
 
   pub outcome : (r : Result (Unit {0}) Refusal) (o : Option Refusal) → first_refusal m ≡ o → r ≡ unless_refused o (Ok tt) → (r ≡ unless_refused (first_refusal m) (Ok tt)) × Searched m r
   outcome r o e h =

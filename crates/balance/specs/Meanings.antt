@@ -1,9 +1,9 @@
 -- What a system means: its size and, at each place, two ends or a refusal. Nodes, rows and columns are counted from 1.
-use Rattle.std.specs.Prelude.{◌≡◌, ℕ, ◌^◌, ◌≤◌, Bool, false, cond, ℤ, pos, neg_ℤ, Ok, Err, Result, int_le, nat_le}
+use Rattle.std.specs.Prelude.{◌≡◌, ℕ, ◌^◌, ◌≤◌, Bool, false, cond, ℤ, pos, Ok, Err, Result, nat_le}
 use Rattle.balance.specs.declared.range.Range.{Range}
 use Rattle.balance.specs.declared.refusal.Refusal.{Refusal}
 use Rattle.balance.specs.declared.refusal.Refusal.TheVariants.{Node, Limit}
-use Rattle.balance.specs.Ranges.{only, Between}
+use Rattle.balance.specs.Ranges.{only, within, limits, Between}
 
 -- two ends, or the fields of a refusal 8: part, row and column
 pub data Place : Type 0 where
@@ -65,6 +65,10 @@ answer (refused part row column) = Err (Limit part row column)
 abbrev pub is_node : ℕ → ℕ → Bool
 is_node n i = cond (nat_le 1 i) (nat_le i n) false
 
+-- a number that is no node is refused by itself
+abbrev pub node_check : ℕ → ℕ → Result (Unit {0}) Refusal
+node_check n i = cond (is_node n i) (Ok tt) (Err (Node i))
+
 -- a place outside the nodes is refused by the node given, the row first
 abbrev pub coefficient_answer : Meaning → ℕ → ℕ → Result (ℤ × ℤ) Refusal
 coefficient_answer m i j = cond (is_node m.size i) (cond (is_node m.size j) (answer (m.coefficient i j)) (Err (Node j))) (Err (Node i))
@@ -74,6 +78,9 @@ right_side_answer m i = cond (is_node m.size i) (answer (m.right_side i)) (Err (
 
 -- ---- places whose range may go beyond the limit
 
+-- a range that keeps within its limits is told, and its place is refused by part, row and column where it doesn't
+abbrev pub placed : Range → ℕ → ℕ → ℕ → Range → Place
+placed ends part row column r = cond (within r ends) (told r) (refused part row column)
+
 abbrev pub limited : ℕ → ℕ → ℕ → ℕ → Range → Place
-limited limit part row column r =
-    cond (cond (int_le (neg_ℤ (pos limit)) r.lower) (int_le r.upper (pos limit)) false) (told r) (refused part row column)
+limited limit part row column r = placed (limits limit) part row column r

@@ -1,5 +1,6 @@
 -- Ranges of whole numbers, both ends included, and the arithmetic on their ends.
-use Rattle.std.specs.Prelude.{ℕ, zero, suc, Bool, false, cond, ℤ, pos, ◌+ℤ◌, ◌-ℤ◌, ◌*ℤ◌, neg_ℤ, ◌≤ℤ◌, Ok, Err, Result, FitsSigned, int_le}
+use Rattle.std.specs.Prelude.{ℕ, zero, suc, Bool, false, cond, List, ◌++◌, codes, ℤ, pos, ◌+ℤ◌, ◌-ℤ◌, ◌*ℤ◌, neg_ℤ, ◌≤ℤ◌, Ok, Err, Result, FitsSigned, int_le}
+use Rattle.std.specs.Fmt.{signed_decimal}
 use Rattle.std.specs.Int.{int_min, int_max, w64}
 use Rattle.balance.specs.declared.range.Range.{Range}
 use Rattle.balance.specs.declared.refusal.Refusal.{Refusal}
@@ -24,6 +25,18 @@ infix 50 ◌⊆◌
 pub record ◌⊆◌ (r s : Range) : Type 0 where
   pub low : s.lower ≤ℤ r.lower
   pub high : r.upper ≤ℤ s.upper
+
+-- the number is one of the range
+abbrev pub contains : Range → ℤ → Bool
+contains r p = cond (int_le r.lower p) (int_le p r.upper) false
+
+-- no end of r lies beyond those of s
+abbrev pub within : Range → Range → Bool
+within r s = cond (int_le s.lower r.lower) (int_le r.upper s.upper) false
+
+-- from -limit to limit
+abbrev pub limits : ℕ → Range
+limits limit = range (neg_ℤ (pos limit)) (pos limit)
 
 -- in order, and no end beyond ±limit
 abbrev pub Between : ℕ → Range → Type 0
@@ -64,6 +77,10 @@ total f (suc k) = plus (total f k) (f (suc k))
 -- the two ranges have a number in common, and be it an end
 abbrev pub meets : Range → Range → Bool
 meets a b = cond (int_le a.lower b.upper) (int_le b.lower a.upper) false
+
+-- `[lower, upper]`
+abbrev pub range_text : Range → List ℕ
+range_text r = codes "[" ++ (signed_decimal r.lower ++ (codes ", " ++ (signed_decimal r.upper ++ codes "]")))
 
 -- An operation on ranges extends one on numbers: it holds every result of numbers in its ranges, and smaller ranges give a smaller one.
 pub record IntervalExtension (op : ℤ → ℤ → ℤ) (wide : Range → Range → Range) : Type 0 where

@@ -1,16 +1,11 @@
--- The cells of a table: where they lie, and that the table keeps the law of systems.
-use Rattle.std.specs.Prelude.{◌≡◌, ℕ, zero, suc, ◌+◌, ◌-◌, ◌*◌, ◌^◌, ◌<◌, ◌≤◌, Bool, true, false, cond, List, [], ◌∷◌, map, pos, neg_ℤ, int_le, slice_index_or, refl}
+-- The table keeps the law of systems.
+use Rattle.std.specs.Prelude.{◌≡◌, ℕ, zero, suc, ◌+◌, ◌^◌, Bool, true, false, cond, List, [], ◌∷◌, map, pos, neg_ℤ, int_le, slice_index_or, refl}
 use Rattle.std.proofs.Common.{arith}
 use Rattle.std.proofs.lemmas.Int.{ints}
-use Rattle.std.proofs.lemmas.Nat.{mul-add-lt}
 use Rattle.balance.specs.declared.range.Range.{Range}
 use Rattle.balance.specs.Ranges.{only, Ordered}
 use Rattle.balance.specs.Meanings.{told, refused, Lawful, Within, limited}
 use Rattle.balance.specs.Tables.{table, Counted}
-
--- row i and column j lie within n rows of n + 1 cells
-pub index_below : (n i j : ℕ) → 1 ≤ i → i ≤ n → 1 ≤ j → j ≤ n + 1 → (i - 1) * (n + 1) + (j - 1) < n * (n + 1)
-index_below n i j p q r s = omega (arith, mul-add-lt (i - 1) (n + 1) (j - 1) n (omega arith) (omega arith))
 
 limited_by : (limit part row column : ℕ) (r : Range) → Ordered r → (s t : Bool) → int_le (neg_ℤ (pos limit)) r.lower ≡ s → int_le r.upper (pos limit) ≡ t → Within limit (cond (cond s t false) (told r) (refused part row column))
 limited_by limit part row column r o true true e f = (omega (arith, ints), omega (arith, ints), omega (arith, ints))

@@ -53,23 +53,25 @@ pub struct Centred {
     pub tolerance: i64,
 }
 
-const CENTRED_LIMIT: i64 = 4_398_046_511_104;
+// A centre lies within ±2^42.
+const CENTRES: Range = Range {
+    lower: -4_398_046_511_104,
+    upper: 4_398_046_511_104,
+};
 
-fn allowed(centre: i64, tolerance: i64) -> bool
-    ensures { result ≡ allowed centre tolerance }
-{
-    -CENTRED_LIMIT <= centre
-        && centre <= CENTRED_LIMIT
-        && 0 <= tolerance
-        && tolerance <= CENTRED_LIMIT
-}
+// A tolerance lies in 0 to 2^42.
+const TOLERANCES: Range = Range {
+    lower: 0,
+    upper: 4_398_046_511_104,
+};
 
 impl Centred {
     pub fn new(centre: i64, tolerance: i64) -> Result<Centred, Refusal>
         ensures made_exactly_within_limits { result ≡ centred_making centre tolerance }
     {
-        if allowed(centre, tolerance) {
-            Ok(Centred { centre, tolerance })
+        let cell = Centred { centre, tolerance };
+        if cell.is_allowed() {
+            Ok(cell)
         } else {
             Err(Refusal::Limit {
                 part: 0,
@@ -77,6 +79,12 @@ impl Centred {
                 column: 0,
             })
         }
+    }
+
+    fn is_allowed(&self) -> bool
+        ensures { result ≡ allowed self.now.centre self.now.tolerance }
+    {
+        CENTRES.contains(self.centre) && TOLERANCES.contains(self.tolerance)
     }
 }
 
@@ -87,7 +95,7 @@ impl Cell for Centred {
     ghost ordered = { Prim.search rules };
 
     fn tell(&self) -> Range {
-        if allowed(self.centre, self.tolerance) {
+        if self.is_allowed() {
             Range {
                 lower: self.centre - self.tolerance,
                 upper: self.centre + self.tolerance,

@@ -2,7 +2,6 @@
 #![tactic(auto)]
 
 pub mod cell;
-mod interval;
 pub mod places;
 pub mod point;
 pub mod range;

@@ -10,14 +10,15 @@ pub fn every_place_answers<S: System>(system: &S) -> Result<(), Refusal>
     ensures names_the_first_refused_place { Searched (S.meaning system.now) result }
 {
     let size = system.size();
+    // Nested loops left by a label, by the rule on the form of this search.
     'search: {
-        for i in 0..size {
-            for j in 0..size {
-                if let Err(refusal) = system.coefficient(i + 1, j + 1) {
+        for row in 1..=size {
+            for column in 1..=size {
+                if let Err(refusal) = system.coefficient(row, column) {
                     break 'search Err(refusal);
                 }
             }
-            if let Err(refusal) = system.right_side(i + 1) {
+            if let Err(refusal) = system.right_side(row) {
                 break 'search Err(refusal);
             }
         }

@@ -1,19 +1,25 @@
-ghost use Rattle.std.specs.Prelude.{◌≡◌, ◌^◌, ◌≤◌, pos, neg_ℤ, None, Ok};
-ghost use Rattle.balance.specs.Places.{every, first_refusal, unless_refused};
-ghost use Rattle.balance.specs.Points.{between, numerator, point_refusal, fits, possible_answer, TellsPossible};
+ghost use Rattle.std.specs.Prelude.{◌≡◌, ℕ, ◌≤◌, ◌↔◌, true, length, Some, None, IfOk, IfErr, IsTrue};
+ghost use Rattle.balance.specs.Places.{first_refusal};
+ghost use Rattle.balance.specs.Points.{numerator, point_refusal, fits, possible_answer, TellsPossible};
 
 use super::cell::Cell;
-use super::interval;
 use super::places::every_place_answers;
+use super::range::Range;
 use super::refusal::Refusal;
 use super::rows::{right_side_range, row_sum};
 use super::system::System;
 
 // A numerator lies within ±2^37.
-const NUMERATOR_LIMIT: i64 = 137_438_953_472;
+const NUMERATORS: Range = Range {
+    lower: -137_438_953_472,
+    upper: 137_438_953_472,
+};
 
 // A denominator lies in 1 to 2^20.
-const DENOMINATOR_LIMIT: i64 = 1_048_576;
+const DENOMINATORS: Range = Range {
+    lower: 1,
+    upper: 1_048_576,
+};
 
 // Whether the point with these numerators over one denominator is a solution of some member system.
 pub fn possible<S: System>(
@@ -25,63 +31,56 @@ pub fn possible<S: System>(
     ensures says_yes_exactly_if_a_member_has_the_point { TellsPossible (S.meaning system.now) numerators.now denominator result }
 {
     every_place_answers(system)?;
-    check_point(system.size(), numerators, denominator)?;
-    Ok(every_row_fits(system, numerators, denominator))
+    let point = Point::new(system.size(), numerators, denominator)?;
+    Ok(every_row_fits(system, &point))
 }
 
-fn numerator_allowed(p: i64) -> bool
-    ensures { result ≡ between (neg_ℤ (pos (2 ^ 37))) (pos (2 ^ 37)) p }
-{
-    -NUMERATOR_LIMIT <= p && p <= NUMERATOR_LIMIT
+// Numerators over one denominator, each of them allowed.
+#[derive(Drop)]
+struct Point<'a> {
+    numerators: &'a [i64],
+    denominator: i64,
+    ghost allowed: { point_refusal (length numerators.now) numerators.now denominator ≡ None },
 }
 
-fn denominator_allowed(q: i64) -> bool
-    ensures { result ≡ between (pos 1) (pos (2 ^ 20)) q }
-{
-    1 <= q && q <= DENOMINATOR_LIMIT
-}
-
-// Refuses a point with another count than the system's size, or with a denominator or a numerator that is not allowed.
-fn check_point(size: usize, numerators: &[i64], denominator: i64) -> Result<(), Refusal>
-    ensures { result ≡ unless_refused (point_refusal size numerators.now denominator) (Ok tt) }
-{
-    if numerators.len() != size {
-        return Err(Refusal::Point { place: 0 });
-    }
-    if !denominator_allowed(denominator) {
-        return Err(Refusal::Point { place: 0 });
-    }
-    for j in 0..numerators.len() {
-        if !numerator_allowed(numerators[j]) {
-            return Err(Refusal::Point { place: j + 1 });
+impl<'a> Point<'a> {
+    // Refuses another count than the system's size, a denominator that is not allowed, or the first numerator that is not.
+    fn new(size: usize, numerators: &'a [i64], denominator: i64) -> Result<Point<'a>, Refusal>
+        ensures is_allowed { IfOk result (λ p. point_refusal size numerators.now denominator ≡ None) }
+        ensures holds_the_numerators { IfOk result (λ p. p.numerators.now ≡ numerators.now) }
+        ensures holds_the_denominator { IfOk result (λ p. p.denominator ≡ denominator) }
+        ensures refuses { IfErr result (λ e. point_refusal size numerators.now denominator ≡ Some e) }
+    {
+        if numerators.len() != size || !DENOMINATORS.contains(denominator) {
+            return Err(Refusal::Point { place: 0 });
+        }
+        match NUMERATORS.first_outside(numerators) {
+            Some(j) => Err(Refusal::Point { place: j + 1 }),
+            None => Ok(Point {
+                numerators,
+                denominator,
+            }),
         }
     }
-    Ok(())
 }
 
-fn every_row_fits<S: System>(system: &S, numerators: &[i64], denominator: i64) -> bool
-    requires { (first_refusal (S.meaning system.now) ≡ None) × (point_refusal (S.meaning system.now).size numerators.now denominator ≡ None) }
-    ensures { result ≡ every (fits (S.meaning system.now) (numerator numerators.now) denominator) (S.meaning system.now).size }
+fn every_row_fits<S: System>(system: &S, point: &Point) -> bool
+    requires answers { first_refusal (S.meaning system.now) ≡ None }
+    requires counted { length point.now.numerators.now ≡ (S.meaning system.now).size }
+    ensures { IsTrue result ↔ ((row : ℕ) → 1 ≤ row → row ≤ (S.meaning system.now).size → fits (S.meaning system.now) (numerator point.now.numerators.now) point.now.denominator row ≡ true) }
 {
-    for i in 0..system.size() {
-        if !row_fits(system, numerators, denominator, i + 1) {
-            return false;
-        }
-    }
-    true
+    (1..=system.size()).all(|row| row_fits(system, point, row) == Some(true))
 }
 
-// Whether the sum of a row and the denominator times its right side have a number in common.
-fn row_fits<S: System>(system: &S, numerators: &[i64], denominator: i64, row: usize) -> bool
-    requires not_refused { (first_refusal (S.meaning system.now) ≡ None) × (point_refusal (S.meaning system.now).size numerators.now denominator ≡ None) }
+// Always told, as every place answers: whether the sum of a row and the denominator times its right side have a number in common.
+fn row_fits<S: System>(system: &S, point: &Point, row: usize) -> Option<bool>
+    requires answers { first_refusal (S.meaning system.now) ≡ None }
+    requires counted { length point.now.numerators.now ≡ (S.meaning system.now).size }
     requires row_is_a_node { (1 ≤ row) × (row ≤ (S.meaning system.now).size) }
-    ensures { result ≡ fits (S.meaning system.now) (numerator numerators.now) denominator row }
+    ensures { result ≡ Some (fits (S.meaning system.now) (numerator point.now.numerators.now) point.now.denominator row) }
 {
-    let Some(sum) = row_sum(system, numerators, row, 0) else {
-        return false;
-    };
-    let Some(side) = right_side_range(system, row) else {
-        return false;
-    };
-    interval::meets(sum, interval::times(side, denominator.tell()))
+    let sum = row_sum(system, point.numerators, row, 0)?;
+    let side = right_side_range(system, row)?;
+    let scaled = side.checked_mul(point.denominator.tell())?;
+    Some(sum.meets(scaled))
 }

@@ -1,12 +1,12 @@
-ghost use Rattle.std.specs.Prelude.{◌≡◌, ◌+ℤ◌, ◌-ℤ◌, ◌*ℤ◌};
+ghost use Rattle.std.specs.Prelude.{◌≡◌, ◌↔◌, ◌+ℤ◌, ◌-ℤ◌, ◌*ℤ◌, Some, IsTrue, not, position};
 ghost use Rattle.std.specs.Option.{SomeIff};
-ghost use Rattle.balance.specs.Ranges.{range_making, plus, minus, times, Fits64, IntervalExtension};
+ghost use Rattle.balance.specs.Ranges.{range, range_making, range_text, contains, within, meets, plus, minus, spanned, times, ◌⊆◌, Fits64, Inside, IntervalExtension};
 
-use super::interval::spanned;
 use super::refusal::Refusal;
+use std::fmt;
 
 // Two ends, both included. A plain record: `new` refuses crossed ends, but nobody is kept from writing them.
-#[derive(Clone, Copy, PartialEq, Eq, Debug)]
+#[derive(Clone, Copy, PartialEq, Eq, Default, Debug)]
 pub struct Range {
     pub lower: i64,
     pub upper: i64,
@@ -23,6 +23,35 @@ impl Range {
         } else {
             Err(Refusal::Crossed { place: 0 })
         }
+    }
+
+    pub fn contains(self, number: i64) -> bool
+        ensures is { result ≡ contains self number }
+        ensures tells_its_numbers { IsTrue result ↔ Inside number self }
+    {
+        self.lower <= number && number <= self.upper
+    }
+
+    // Where the first number of a list lies that is outside the range.
+    pub fn first_outside(self, numbers: &[i64]) -> Option<usize>
+        ensures is_the_first_position { result ≡ position (λ number. not (contains self number)) numbers.now }
+    {
+        numbers.iter().position(|number| !self.contains(*number))
+    }
+
+    // Whether no end lies beyond those of another range.
+    pub fn is_within(self, other: Range) -> bool
+        ensures is { result ≡ within self other }
+        ensures tells_inclusion { IsTrue result ↔ (self ⊆ other) }
+    {
+        other.lower <= self.lower && self.upper <= other.upper
+    }
+
+    // Whether two ranges have a number in common.
+    pub fn meets(self, other: Range) -> bool
+        ensures touching_included { result ≡ meets self other }
+    {
+        self.lower <= other.upper && other.lower <= self.upper
     }
 
     // The ends added, where they fit 64 bits.
@@ -55,5 +84,40 @@ impl Range {
         let s = self.upper.checked_mul(other.lower)?;
         let t = self.upper.checked_mul(other.upper)?;
         Some(spanned(p, q, s, t))
+    }
+}
+
+// From the smallest to the largest of four numbers.
+fn spanned(p: i64, q: i64, s: i64, t: i64) -> Range
+    ensures { result ≡ spanned p q s t }
+{
+    Range {
+        lower: p.min(q).min(s.min(t)),
+        upper: p.max(q).max(s.max(t)),
+    }
+}
+
+// A pair of ends, as a system answers it.
+impl From<(i64, i64)> for Range {
+    ghost from_gives = { λ ends r. r ≡ range ends.0 ends.1 };
+
+    fn from((lower, upper): (i64, i64)) -> Range {
+        Range { lower, upper }
+    }
+}
+
+impl From<Range> for (i64, i64) {
+    ghost from_gives = { λ r ends. ends ≡ (r.lower, r.upper) };
+
+    fn from(range: Range) -> (i64, i64) {
+        (range.lower, range.upper)
+    }
+}
+
+impl fmt::Display for Range {
+    ghost output = { λ r. Some (range_text r) };
+
+    fn fmt<W: fmt::Write>(&self, f: &mut fmt::Formatter<W>) -> fmt::Result {
+        write!(f, "[{}, {}]", self.lower, self.upper)
     }
 }

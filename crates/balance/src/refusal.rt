@@ -4,7 +4,7 @@ ghost use Rattle.balance.specs.Refusals.{number, first_value, written};
 use std::error::Error;
 use std::fmt;
 
-// Why a call said no. Each variant has a number that users see, and the values that go with it.
+// Why a call said no. Each variant has a number that users see, and the values that go with it; place 0 is what they see where none is named.
 #[derive(Clone, Copy, PartialEq, Eq, Debug)]
 pub enum Refusal {
     // 1: the file is empty or too long, or its trailer is malformed, points wrongly or miscounts
@@ -125,12 +125,24 @@ impl fmt::Display for Refusal {
 
 impl Error for Refusal {}
 
-// A refusal, and the value that the refused call was given.
+// A refusal, and the value that the refused call was given. It is shown as its refusal.
 #[derive(Drop)]
+#[derive_where(Debug)]
 pub struct Returned<T> {
     pub refusal: Refusal,
+    #[derive_where(skip)]
     pub value: T,
 }
+
+impl<T> fmt::Display for Returned<T> {
+    ghost output = { λ e. Some (written e.refusal) };
+
+    fn fmt<W: fmt::Write>(&self, f: &mut fmt::Formatter<W>) -> fmt::Result {
+        self.refusal.fmt(f)
+    }
+}
+
+impl<T: Drop> Error for Returned<T> {}
 
 // For a caller that needs nothing back.
 impl<T: Drop> From<Returned<T>> for Refusal {

@@ -1,10 +1,9 @@
 ghost use Rattle.std.specs.Prelude.{◌≡◌, ◌^◌, map, ◌≤ℤ◌, IfSome};
 ghost use Rattle.balance.specs.Ranges.{Between};
 ghost use Rattle.balance.specs.Meanings.{coefficient_answer, right_side_answer};
-ghost use Rattle.balance.specs.Rows.{found, small, term, row_sum};
+ghost use Rattle.balance.specs.Rows.{found, term, row_sum};
 
 use super::cell::Cell;
-use super::interval;
 use super::range::Range;
 use super::system::System;
 
@@ -13,31 +12,22 @@ pub fn coefficient_range<S: System>(system: &S, row: usize, column: usize) -> Op
     ensures is_the_range_where_it_answers { result ≡ found (coefficient_answer (S.meaning system.now) row column) }
     ensures keeps_the_limit { IfSome result (Between (2 ^ 20)) }
 {
-    match system.coefficient(row, column) {
-        Ok((lower, upper)) => Some(Range { lower, upper }),
-        Err(_) => None,
-    }
+    system.coefficient(row, column).ok().map(Range::from)
 }
 
-// The range of a right side, where its place answers.
+// The range of a right side, where its place answers. (The two questions of the interface take other parameters.)
 pub fn right_side_range<S: System>(system: &S, row: usize) -> Option<Range>
     ensures is_the_range_where_it_answers { result ≡ found (right_side_answer (S.meaning system.now) row) }
     ensures keeps_the_limit { IfSome result (Between (2 ^ 42)) }
 {
-    match system.right_side(row) {
-        Ok((lower, upper)) => Some(Range { lower, upper }),
-        Err(_) => None,
-    }
+    system.right_side(row).ok().map(Range::from)
 }
 
 // No end of a node's range goes beyond ±2^37 in the sum of a row.
-const SMALL: i64 = 137_438_953_472;
-
-fn small(x: Range) -> bool
-    ensures { result ≡ small x }
-{
-    -SMALL <= x.lower && x.upper <= SMALL
-}
+const SMALL: Range = Range {
+    lower: -137_438_953_472,
+    upper: 137_438_953_472,
+};
 
 // What a column adds to the sum of a row.
 fn term<S: System>(system: &S, row: usize, without: usize, column: usize, x: Range) -> Option<Range>
@@ -48,16 +38,15 @@ fn term<S: System>(system: &S, row: usize, without: usize, column: usize, x: Ran
     if column == without {
         return Some(Range::ZERO);
     }
-    let Some(a) = coefficient_range(system, row, column) else {
-        return None;
-    };
-    if small(x) {
-        Some(interval::times(a, x))
+    let a = coefficient_range(system, row, column)?;
+    if x.is_within(SMALL) {
+        a.checked_mul(x)
     } else {
         None
     }
 }
 
+// (Column 0 is no column, so that 0 leaves out none: the definition counts as the code does.)
 // The sum of a row over the ranges of all nodes, without one column (0: with every column), where each coefficient in it answers and no range is too large.
 pub fn row_sum<S: System, C: Cell>(system: &S, x: &[C], row: usize, without: usize) -> Option<Range>
     ensures is_the_sum_where_all_answer { result ≡ row_sum (S.meaning system.now) (map C.Cell.ends x.now) row without }
@@ -67,11 +56,9 @@ pub fn row_sum<S: System, C: Cell>(system: &S, x: &[C], row: usize, without: usi
         return None;
     }
     let mut sum = Range::ZERO;
-    for j in 0..x.len() {
-        let Some(more) = term(system, row, without, j + 1, x[j].tell()) else {
-            return None;
-        };
-        sum = interval::plus(sum, more);
+    for (j, cell) in x.iter().enumerate() {
+        let more = term(system, row, without, j + 1, cell.tell())?;
+        sum = sum.checked_add(more)?;
     }
     Some(sum)
 }

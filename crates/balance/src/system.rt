@@ -1,9 +1,10 @@
-ghost use Rattle.std.specs.Prelude.{◌≡◌, ℕ, ◌^◌, ◌≤◌, true, pos, ◌≤ℤ◌, unsigned_abs};
-ghost use Rattle.balance.specs.Meanings.{Meaning, Lawful, coefficient_answer, right_side_answer, is_node, answer, limited};
+ghost use Rattle.std.specs.Prelude.{◌≡◌, ℕ, ◌≤◌, true, OnOk};
+ghost use Rattle.balance.specs.Meanings.{Meaning, Lawful, coefficient_answer, right_side_answer, is_node, node_check, answer, placed};
 
 use super::range::Range;
 use super::refusal::Refusal;
 
+// Row and column are two numbers in each question and each refusal, as the interface is asked.
 // An interval linear system of 1 to 32 nodes. It is asked for its size and for the two ends at each place; a question changes nothing.
 pub trait System {
     // The part that the system names in a refusal 8 of its own.
@@ -24,57 +25,50 @@ pub trait System {
 }
 
 // No end of a coefficient lies beyond ±2^20.
-pub const COEFFICIENT_LIMIT: i64 = 1_048_576;
+pub const COEFFICIENTS: Range = Range {
+    lower: -1_048_576,
+    upper: 1_048_576,
+};
 
 // No end of a right side lies beyond ±2^42.
-pub const RIGHT_SIDE_LIMIT: i64 = 4_398_046_511_104;
+pub const RIGHT_SIDES: Range = Range {
+    lower: -4_398_046_511_104,
+    upper: 4_398_046_511_104,
+};
 
 // Whether a number is one of the nodes 1 to n.
 pub fn is_node(size: usize, node: usize) -> bool
     ensures is { result ≡ is_node size node }
     ensures within { result ≡ true → (1 ≤ node) × (node ≤ size) }
 {
-    1 <= node && node <= size
+    (1..=size).contains(&node)
 }
 
-// A range as an answer, or the refusal of its place where it goes beyond the limit.
-pub(crate) fn limited(
-    range: Range,
-    limit: i64,
-    part: usize,
-    row: usize,
-    column: usize,
-) -> Result<(i64, i64), Refusal>
-    requires { pos 0 ≤ℤ limit }
-    ensures { result ≡ answer (limited (unsigned_abs limit) part row column range) }
+// Refuses a number that is none of the nodes 1 to n.
+pub fn check_node(size: usize, node: usize) -> Result<(), Refusal>
+    ensures refuses_by_the_number { result ≡ node_check size node }
+    ensures passes_nodes { OnOk result ((1 ≤ node) × (node ≤ size)) }
 {
-    if -limit <= range.lower && range.upper <= limit {
-        Ok((range.lower, range.upper))
+    if is_node(size, node) {
+        Ok(())
     } else {
-        Err(Refusal::Limit { part, row, column })
+        Err(Refusal::Node { place: node })
     }
 }
 
-// A coefficient as an answer, or the refusal of its place where it goes beyond the limit.
-pub fn limited_coefficient(
+// A range as an answer, or the refusal of its place where it goes beyond the limits.
+pub fn limited(
     range: Range,
+    limits: Range,
     part: usize,
     row: usize,
     column: usize,
 ) -> Result<(i64, i64), Refusal>
-    ensures answers_within_the_limit { result ≡ answer (limited (2 ^ 20) part row column range) }
+    ensures answers_within_the_limits { result ≡ answer (placed limits part row column range) }
 {
-    limited(range, COEFFICIENT_LIMIT, part, row, column)
-}
-
-// A right side as an answer, or the refusal of its place where it goes beyond the limit.
-pub fn limited_right_side(
-    range: Range,
-    part: usize,
-    row: usize,
-    column: usize,
-) -> Result<(i64, i64), Refusal>
-    ensures answers_within_the_limit { result ≡ answer (limited (2 ^ 42) part row column range) }
-{
-    limited(range, RIGHT_SIDE_LIMIT, part, row, column)
+    if range.is_within(limits) {
+        Ok(range.into())
+    } else {
+        Err(Refusal::Limit { part, row, column })
+    }
 }

@@ -1,4 +1,4 @@
-ghost use Rattle.std.specs.Prelude.{◌≡◌, ◌+◌, ◌*◌, ◌≤◌, map, Ok, Err, vec_len};
+ghost use Rattle.std.specs.Prelude.{◌≡◌, ◌+◌, ◌≤◌, ◌↔◌, map, IsOk, IfOk, IfErr, vec_len};
 ghost use Rattle.balance.specs.declared.refusal.Refusal.TheVariants.{Size};
 ghost use Rattle.balance.specs.Tables.{Counted, cell, table};
 ghost use Rattle.balance.specs.TablesLemmas.{table_lawful};
@@ -6,7 +6,7 @@ ghost use Rattle.balance.specs.TablesLemmas.{table_lawful};
 use super::cell::Cell;
 use super::range::Range;
 use super::refusal::{Refusal, Returned};
-use super::system::{COEFFICIENT_LIMIT, RIGHT_SIDE_LIMIT, System, is_node, limited};
+use super::system::{COEFFICIENTS, RIGHT_SIDES, System, check_node, limited};
 
 // The table's part number. In a generic `impl` the checker does not see the value of `Self::PART`, so the constant has a name of its own.
 const TABLE_PART: usize = 1;
@@ -22,10 +22,13 @@ pub struct Table<C: Cell> {
 impl<C: Cell> Table<C> {
     // Another size than 1 to 32, or another number of cells, is refused, and the cells come back.
     pub fn new(size: usize, cells: Vec<C>) -> Result<Table<C>, Returned<Vec<C>>>
-        ensures made_exactly_when_counted { elim result [ Ok t ↦ Counted size (vec_len cells) | Err e ↦ (Counted size (vec_len cells) → ⊥) ] }
-        ensures holds_the_cells { elim result [ Ok t ↦ (t.size ≡ size) × (t.cells ≡ cells) | Err e ↦ (e.refusal ≡ Size 0) × (e.value ≡ cells) ] }
+        ensures made_exactly_when_counted { IsOk result ↔ Counted size (vec_len cells) }
+        ensures holds_the_size { IfOk result (λ t. t.size ≡ size) }
+        ensures holds_the_cells { IfOk result (λ t. t.cells ≡ cells) }
+        ensures refuses_size_or_count { IfErr result (λ e. e.refusal ≡ Size 0) }
+        ensures hands_the_cells_back { IfErr result (λ e. e.value ≡ cells) }
     {
-        if size < 1 || size > 32 || cells.len() != size * (size + 1) {
+        if !(1..=32).contains(&size) || cells.len() != size * (size + 1) {
             return Err(Returned {
                 refusal: Refusal::Size { place: 0 },
                 value: cells,
@@ -36,7 +39,8 @@ impl<C: Cell> Table<C> {
 
     // What the cell at a row and column tells; column n + 1 is the right side.
     fn told(&self, row: usize, column: usize) -> Range
-        requires { (1 ≤ row) × ((row ≤ self.now.size) × ((1 ≤ column) × (column ≤ self.now.size + 1))) }
+        requires row_is_a_node { (1 ≤ row) × (row ≤ self.now.size) }
+        requires column_has_a_cell { (1 ≤ column) × (column ≤ self.now.size + 1) }
         ensures { result ≡ cell self.now.size (map C.Cell.ends self.now.cells.items) row column }
     {
         self.cells[(row - 1) * (self.size + 1) + (column - 1)].tell()
@@ -55,15 +59,11 @@ impl<C: Cell> System for Table<C> {
     }
 
     fn coefficient(&self, row: usize, column: usize) -> Result<(i64, i64), Refusal> {
-        if !is_node(self.size, row) {
-            return Err(Refusal::Node { place: row });
-        }
-        if !is_node(self.size, column) {
-            return Err(Refusal::Node { place: column });
-        }
+        check_node(self.size, row)?;
+        check_node(self.size, column)?;
         limited(
             self.told(row, column),
-            COEFFICIENT_LIMIT,
+            COEFFICIENTS,
             TABLE_PART,
             row,
             column,
@@ -71,16 +71,8 @@ impl<C: Cell> System for Table<C> {
     }
 
     fn right_side(&self, row: usize) -> Result<(i64, i64), Refusal> {
-        if !is_node(self.size, row) {
-            return Err(Refusal::Node { place: row });
-        }
+        check_node(self.size, row)?;
         let column = self.size + 1;
-        limited(
-            self.told(row, column),
-            RIGHT_SIDE_LIMIT,
-            TABLE_PART,
-            row,
-            column,
-        )
+        limited(self.told(row, column), RIGHT_SIDES, TABLE_PART, row, column)
     }
 }

@@ -6,10 +6,10 @@ use Rattle.balance.specs.Ranges.{range}
 use Rattle.balance.specs.Meanings.{Meaning}
 use Rattle.balance.specs.Tables.{table}
 use Rattle.balance.specs.Points.{possible_answer}
-use Rattle.roast.specs.declared.call.Answer.TheVariants.{Changed, Refused}
+use Rattle.roast.specs.declared.call.Answer.TheVariants.{Changed}
 use Rattle.roast.specs.Certificates.{v, opening}
 use Rattle.roast.specs.Narrowing.{Box, at_rest}
-use Rattle.roast.specs.Machine.{row_step_at, reading_at, tells, outcome}
+use Rattle.roast.specs.Machine.{row_step_at, reading_at, tells, refuses, outcome}
 
 -- two nodes: rows [4, 5] [-1, 1] | [8, 10] and [-1, 1] [4, 5] | [-10, -8]
 abbrev pub drum : Meaning
@@ -52,7 +52,7 @@ pub record WorkedDrums : Type 0 where
   pub reading_taken : outcome drum at_drum_rest (reading_at 1 (pos 2) (pos 3)) ≡ tells (box_of (pos 2) (pos 3) (negsuc 3) (pos 0)) (Changed true)
   pub step_after_reading : outcome drum (box_of (pos 2) (pos 3) (negsuc 3) (pos 0)) (row_step_at 2) ≡ tells (box_of (pos 2) (pos 3) (negsuc 3) (negsuc 0)) (Changed true)
   -- at rest, the reading [5, 9] at node 1 is a conflict, and [4, 9] gives [4, 4]
-  pub reading_in_conflict : outcome drum at_drum_rest (reading_at 1 (pos 5) (pos 9)) ≡ tells at_drum_rest (Refused (Conflict 1))
+  pub reading_in_conflict : outcome drum at_drum_rest (reading_at 1 (pos 5) (pos 9)) ≡ refuses at_drum_rest (Conflict 1)
   pub reading_touches : outcome drum at_drum_rest (reading_at 1 (pos 4) (pos 9)) ≡ tells (box_of (pos 4) (pos 4) (negsuc 3) (pos 0)) (Changed true)
   -- one node, [3, 3] x = [-7, -7]: first [-3, 3], stepped [-3, -2]
   pub rounds_down : opening (single (range (pos 3) (pos 3)) (range (negsuc 6) (negsuc 6))) one ≡ Ok (range (negsuc 2) (pos 3) ∷ [])
@@ -62,7 +62,7 @@ pub record WorkedDrums : Type 0 where
   pub negative_step : outcome (single (range (negsuc 4) (negsuc 3)) (range (pos 8) (pos 10))) (range (negsuc 2) (pos 3) ∷ []) (row_step_at 1) ≡ tells (range (negsuc 2) (negsuc 0) ∷ []) (Changed true)
   -- [2, 2] x = [6, 6]: the reading [0, 1] of the first box [-3, 3] is taken, and row step 1 is then a conflict
   pub reading_of_the_first_box : outcome (single (range (pos 2) (pos 2)) (range (pos 6) (pos 6))) (range (negsuc 2) (pos 3) ∷ []) (reading_at 1 (pos 0) (pos 1)) ≡ tells (range (pos 0) (pos 1) ∷ []) (Changed true)
-  pub step_in_conflict : outcome (single (range (pos 2) (pos 2)) (range (pos 6) (pos 6))) (range (pos 0) (pos 1) ∷ []) (row_step_at 1) ≡ tells (range (pos 0) (pos 1) ∷ []) (Refused (Conflict 1))
+  pub step_in_conflict : outcome (single (range (pos 2) (pos 2)) (range (pos 6) (pos 6))) (range (pos 0) (pos 1) ∷ []) (row_step_at 1) ≡ refuses (range (pos 0) (pos 1) ∷ []) (Conflict 1)
   -- the probes (10, -10)/3 are possible, and (11, -11)/3 are not
   pub probes_possible : possible_answer drum (pos 10 ∷ negsuc 9 ∷ []) (pos 3) ≡ Ok true
   pub probes_not_possible : possible_answer drum (pos 11 ∷ negsuc 10 ∷ []) (pos 3) ≡ Ok false

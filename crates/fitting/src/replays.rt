@@ -1,9 +1,7 @@
 // Two roasts of one drum with one certificate: other calls in another order, the same accepted readings, one box at rest.
-use super::{drums, table, tell};
-use balance::range::Range;
-use balance::system::System;
+use super::{drums, tell};
 use balance::table::Table;
-use roast::call::{Answer, Call, Entry, Reading};
+use roast::call::{Call, Entry, Reading};
 use roast::roast::Roast;
 use std::alloc::{AllocError, Global};
 
@@ -77,61 +75,30 @@ pub fn run(rt: &HostRuntime) -> anyhow::Result<()> {
 }
 
 fn replay(rt: &HostRuntime, certificate: &[i64], mut entries: Vec<Entry>) -> anyhow::Result<()> {
-    match table(2, drums::RANGES.to_vec(rt.alloc())?) {
-        Ok(drum) => {
-            let mut roast = Roast::new(drum);
-            tell(
-                rt,
-                "opened",
-                roast.replay(certificate, entries.as_mut_slice()),
-            )?;
-            for entry in entries.iter() {
-                print_call(rt, &entry.call)?;
-                print_answer(rt, entry.answer)?;
-            }
-            Ok(())
+    let mut roast = Roast::new(Table::new(2, drums::RANGES.to_vec(rt.alloc())?)?);
+    tell(
+        rt,
+        "opened",
+        roast.replay(certificate, entries.as_mut_slice()),
+    )?;
+    for entry in entries.iter() {
+        print_entry(rt, entry)?;
+    }
+    Ok(())
+}
+
+// A call, its records before it, and what it was answered with.
+fn print_entry(rt: &HostRuntime, entry: &Entry) -> anyhow::Result<()> {
+    if let Call::Readings { records } = &entry.call {
+        for record in records.iter() {
+            println!(rt; "  listed {record}: {}", record.answer)?;
         }
-        Err(refusal) => tell(rt, "table", Err(refusal)),
     }
-}
-
-fn print_call(rt: &HostRuntime, call: &Call) -> anyhow::Result<()> {
-    match call {
-        Call::RowStep { node } => print!(rt; "  row step {node}: ")?,
-        Call::Round => print!(rt; "  round: ")?,
-        Call::Reading { node, lower, upper } => print!(rt;
-            "  reading [{lower}, {upper}] at node {node}: "
-        )?,
-        Call::Readings { records } => print_records(rt, records)?,
-        Call::AtRest => print!(rt; "  at rest: ")?,
-        Call::Ends { node } => print!(rt; "  ends of node {node}: ")?,
-    }
-    Ok(())
-}
-
-fn print_records(rt: &HostRuntime, records: &Vec<Reading>) -> anyhow::Result<()> {
-    for record in records.iter() {
-        let node = record.node;
-        let lower = record.lower;
-        let upper = record.upper;
-        let answer = record.answer;
-        println!(rt; "  listed reading [{lower}, {upper}] at node {node}: {answer}")?;
-    }
-    print!(rt; "  readings list: ")?;
-    Ok(())
-}
-
-fn print_answer(rt: &HostRuntime, answer: Option<Answer>) -> anyhow::Result<()> {
-    match answer {
+    print!(rt; "  {}: ", entry.call)?;
+    match &entry.answer {
         None => println!(rt; "not made")?,
-        Some(Answer::Changed(true)) => println!(rt; "changed")?,
-        Some(Answer::Changed(false)) => println!(rt; "unchanged")?,
-        Some(Answer::Changes(count)) => println!(rt; "{count} changed")?,
-        Some(Answer::Done) => println!(rt; "done")?,
-        Some(Answer::AtRest(true)) => println!(rt; "yes")?,
-        Some(Answer::AtRest(false)) => println!(rt; "no")?,
-        Some(Answer::Ends(lower, upper)) => println!(rt; "[{lower}, {upper}]")?,
-        Some(Answer::Refused(refusal)) => println!(rt; "{refusal}")?,
+        Some(Ok(answer)) => println!(rt; "{answer}")?,
+        Some(Err(refusal)) => println!(rt; "{refusal}")?,
     }
     Ok(())
 }

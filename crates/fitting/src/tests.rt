@@ -89,17 +89,28 @@ mod at_the_limits {
     #[test]
     fn tables_have_1_to_32_nodes_and_all_their_cells(rt: HostRuntime) -> Result<(), Fail> {
         let heap = rt.alloc();
-        assert!(rt; outcome(table(32, vec![in heap; 1i64; 1056]?)).is_ok());
+        assert!(rt;
+            Table::new(32, vec![in heap; 1i64; 1056]?)
+                .map(drop)
+                .map_err(Refusal::from)
+                .is_ok()
+        );
         assert_eq!(rt;
-            outcome(table(32, vec![in heap; 1i64; 1055]?)),
+            Table::new(32, vec![in heap; 1i64; 1055]?)
+                .map(drop)
+                .map_err(Refusal::from),
             Err(Refusal::Size { place: 0 })
         );
         assert_eq!(rt;
-            outcome(table(33, vec![in heap; 1i64; 1122]?)),
+            Table::new(33, vec![in heap; 1i64; 1122]?)
+                .map(drop)
+                .map_err(Refusal::from),
             Err(Refusal::Size { place: 0 })
         );
         assert_eq!(rt;
-            outcome(table(0, vec![in heap; 1i64; 0]?)),
+            Table::new(0, vec![in heap; 1i64; 0]?)
+                .map(drop)
+                .map_err(Refusal::from),
             Err(Refusal::Size { place: 0 })
         );
         Ok(())
@@ -108,11 +119,11 @@ mod at_the_limits {
     #[test]
     fn places_keep_their_limits(rt: HostRuntime) -> Result<(), Fail> {
         let heap = rt.alloc();
-        let within = table(1, [1_048_576, LARGE].to_vec(heap)?)?;
+        let within = Table::new(1, [1_048_576, LARGE].to_vec(heap)?)?;
         assert_eq!(rt; within.coefficient(1, 1), Ok((1_048_576, 1_048_576)));
         assert_eq!(rt; within.right_side(1), Ok((LARGE, LARGE)));
         assert_eq!(rt; every_place_answers(&within), Ok(()));
-        let beyond = table(1, [-1_048_577, -LARGE - 1].to_vec(heap)?)?;
+        let beyond = Table::new(1, [-1_048_577, -LARGE - 1].to_vec(heap)?)?;
         assert_eq!(rt; beyond.coefficient(1, 1), Err(limit(1, 1, 1)));
         assert_eq!(rt; beyond.right_side(1), Err(limit(1, 1, 2)));
         assert_eq!(rt; every_place_answers(&beyond), Err(limit(1, 1, 1)));
@@ -125,9 +136,9 @@ mod at_the_limits {
     #[test]
     fn a_refused_place_comes_before_a_refused_point(rt: HostRuntime) -> Result<(), Fail> {
         let heap = rt.alloc();
-        let side = table(1, [1, LARGE + 1].to_vec(heap)?)?;
+        let side = Table::new(1, [1, LARGE + 1].to_vec(heap)?)?;
         assert_eq!(rt; possible(&side, &[], 0), Err(limit(1, 1, 2)));
-        let drum = table(1, [1, 5].to_vec(heap)?)?;
+        let drum = Table::new(1, [1, 5].to_vec(heap)?)?;
         assert_eq!(rt; possible(&drum, &[], 1), Err(Refusal::Point { place: 0 }));
         assert_eq!(rt;
             possible(&drum, &[137_438_953_473], 0),
@@ -150,13 +161,14 @@ mod at_the_limits {
     fn the_largest_point_touches_the_largest_right_side(rt: HostRuntime) -> Result<(), Fail> {
         let heap = rt.alloc();
         let mut cells = vec![in heap; 1_048_576i64; 1056]?;
+        // By row: the last of its 33 cells is the right side.
         for row in 0..32usize {
             let place = row * 33 + 32;
             if place < cells.len() {
                 cells[place] = LARGE;
             }
         }
-        let drum = table(32, cells)?;
+        let drum = Table::new(32, cells)?;
         assert_eq!(rt;
             possible(&drum, &[137_438_953_472; 32], 1_048_576),
             Ok(true)
@@ -186,7 +198,7 @@ mod roasting {
         coefficient: i64,
         side: i64,
     ) -> Result<(Result<(), Refusal>, Result<(i64, i64), Refusal>), Fail> {
-        let mut roast = Roast::new(table(1, [coefficient, side].to_vec(heap)?)?);
+        let mut roast = Roast::new(Table::new(1, [coefficient, side].to_vec(heap)?)?);
         let opened = roast.open(&[1]);
         Ok((opened, roast.ends(1)))
     }
@@ -214,7 +226,7 @@ mod roasting {
 
     #[test]
     fn certificates_are_refused_in_order(rt: HostRuntime) -> Result<(), Fail> {
-        let mut roast = Roast::new(table(2, drums::RANGES.to_vec(rt.alloc())?)?);
+        let mut roast = Roast::new(Table::new(2, drums::RANGES.to_vec(rt.alloc())?)?);
         assert_eq!(rt; roast.open(&[1]), Err(Refusal::Certificate { place: 0 }));
         assert_eq!(rt;
             roast.open(&[1, 1_048_577]),
@@ -231,7 +243,7 @@ mod roasting {
 
     #[test]
     fn a_roast_that_was_never_opened_rests(rt: HostRuntime) -> Result<(), Fail> {
-        let mut roast = Roast::new(table(2, drums::RANGES.to_vec(rt.alloc())?)?);
+        let mut roast = Roast::new(Table::new(2, drums::RANGES.to_vec(rt.alloc())?)?);
         assert!(rt; roast.at_rest());
         assert_eq!(rt; roast.round(), Ok(0));
         assert_eq!(rt; roast.row_step(1), Err(Refusal::Node { place: 1 }));
@@ -241,7 +253,7 @@ mod roasting {
 
     #[test]
     fn a_conflict_restores_the_box(rt: HostRuntime) -> Result<(), Fail> {
-        let mut roast = Roast::new(table(2, drums::RANGES.to_vec(rt.alloc())?)?);
+        let mut roast = Roast::new(Table::new(2, drums::RANGES.to_vec(rt.alloc())?)?);
         assert_eq!(rt; roast.open(&[1, 1]), Ok(()));
         assert_eq!(rt; roast.reading(2, 1, 4), Ok(true));
         assert_eq!(rt; roast.round(), Err(Refusal::Conflict { place: 2 }));
@@ -254,7 +266,7 @@ mod roasting {
 
     #[test]
     fn records_are_marked_in_place(rt: HostRuntime) -> Result<(), Fail> {
-        let mut roast = Roast::new(table(2, drums::RANGES.to_vec(rt.alloc())?)?);
+        let mut roast = Roast::new(Table::new(2, drums::RANGES.to_vec(rt.alloc())?)?);
         assert_eq!(rt; roast.open(&[1, 1]), Ok(()));
         let mut list = [
             Reading {

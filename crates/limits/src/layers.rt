@@ -1,7 +1,8 @@
 // Factors and permutations, and what layers pass up.
-use super::made::{RANGES, limit, outcome, renumbered, scaled, table};
+use super::made::{RANGES, limit, outcome};
 use balance::refusal::Refusal;
 use balance::system::System;
+use balance::table::Table;
 use std::alloc::Global;
 use std::test::Fail;
 use systems::renumbering::Renumbering;
@@ -9,8 +10,8 @@ use systems::row_scaler::RowScaler;
 
 // What the two-node drum is answered with under these factors.
 fn scaler<const N: usize>(heap: Global, factors: [i64; N]) -> Result<Result<(), Refusal>, Fail> {
-    let drum = table(2, RANGES.to_vec(heap)?)?;
-    Ok(outcome(scaled(drum, factors.to_vec(heap)?)))
+    let drum = Table::new(2, RANGES.to_vec(heap)?)?;
+    Ok(outcome(RowScaler::new(drum, factors.to_vec(heap)?)))
 }
 
 // What the two-node drum is answered with under this order.
@@ -18,8 +19,8 @@ fn renumbering<const N: usize>(
     heap: Global,
     order: [usize; N],
 ) -> Result<Result<(), Refusal>, Fail> {
-    let drum = table(2, RANGES.to_vec(heap)?)?;
-    Ok(outcome(renumbered(drum, order.to_vec(heap)?)))
+    let drum = Table::new(2, RANGES.to_vec(heap)?)?;
+    Ok(outcome(Renumbering::new(drum, order.to_vec(heap)?)))
 }
 
 #[test]
@@ -41,7 +42,10 @@ fn factors_keep_their_limits(rt: HostRuntime) -> Result<(), Fail> {
 fn scaled_ends_keep_their_limits(rt: HostRuntime) -> Result<(), Fail> {
     let heap = rt.alloc();
     let cells = [1024, 1025, 4_294_967_296, 0, -1024, -4_294_967_297];
-    let drum = scaled(table(2, cells.to_vec(heap)?)?, [1024, -1024].to_vec(heap)?)?;
+    let drum = RowScaler::new(
+        Table::new(2, cells.to_vec(heap)?)?,
+        [1024, -1024].to_vec(heap)?,
+    )?;
     assert_eq!(rt; drum.coefficient(1, 1), Ok((1_048_576, 1_048_576)));
     assert_eq!(rt; drum.coefficient(1, 2), Err(limit(3, 1, 2)));
     assert_eq!(rt; drum.coefficient(2, 2), Ok((1_048_576, 1_048_576)));
@@ -56,7 +60,7 @@ fn scaled_ends_keep_their_limits(rt: HostRuntime) -> Result<(), Fail> {
 #[test]
 fn a_negative_factor_exchanges_the_ends(rt: HostRuntime) -> Result<(), Fail> {
     let heap = rt.alloc();
-    let drum = scaled(table(2, RANGES.to_vec(heap)?)?, [-2, 3].to_vec(heap)?)?;
+    let drum = RowScaler::new(Table::new(2, RANGES.to_vec(heap)?)?, [-2, 3].to_vec(heap)?)?;
     assert_eq!(rt; drum.size(), 2);
     assert_eq!(rt; drum.coefficient(1, 1), Ok((-10, -8)));
     assert_eq!(rt; drum.right_side(1), Ok((-20, -16)));
@@ -93,8 +97,8 @@ fn only_permutations_are_taken(rt: HostRuntime) -> Result<(), Fail> {
 fn refusals_from_below_are_passed_up_unaltered(rt: HostRuntime) -> Result<(), Fail> {
     let heap = rt.alloc();
     let cells = [1, 2, 3, 1_048_577, 5, 6];
-    let drum = renumbered(
-        scaled(table(2, cells.to_vec(heap)?)?, [7, -1].to_vec(heap)?)?,
+    let drum = Renumbering::new(
+        RowScaler::new(Table::new(2, cells.to_vec(heap)?)?, [7, -1].to_vec(heap)?)?,
         [2, 1].to_vec(heap)?,
     )?;
     assert_eq!(rt; drum.coefficient(1, 2), Err(limit(1, 2, 1)));
@@ -109,19 +113,15 @@ fn refusals_from_below_are_passed_up_unaltered(rt: HostRuntime) -> Result<(), Fa
 #[test]
 fn a_refused_making_hands_the_system_back(rt: HostRuntime) -> Result<(), Fail> {
     let heap = rt.alloc();
-    let drum = table(1, [3, 4].to_vec(heap)?)?;
-    match RowScaler::new(drum, [0].to_vec(heap)?) {
-        Ok(_) => Err(Fail::new("made with the factor 0")),
-        Err(returned) => {
-            let (drum, factors) = returned.value;
-            assert_eq!(rt; factors.len(), 1);
-            match Renumbering::new(drum, [2].to_vec(heap)?) {
-                Ok(_) => Err(Fail::new("made with the entry 2")),
-                Err(returned) => {
-                    assert_eq!(rt; returned.value.0.right_side(1), Ok((4, 4)));
-                    Ok(())
-                },
-            }
-        }
-    }
+    let drum = Table::new(1, [3, 4].to_vec(heap)?)?;
+    let Err(returned) = RowScaler::new(drum, [0].to_vec(heap)?) else {
+        return Err(Fail::new("made with the factor 0"));
+    };
+    let (drum, factors) = returned.value;
+    assert_eq!(rt; factors.len(), 1);
+    let Err(returned) = Renumbering::new(drum, [2].to_vec(heap)?) else {
+        return Err(Fail::new("made with the entry 2"));
+    };
+    assert_eq!(rt; returned.value.0.right_side(1), Ok((4, 4)));
+    Ok(())
 }

@@ -1,9 +1,10 @@
 // The records of a network, and the sums of its places.
-use super::made::{heat, limit, link, network, outcome, outside, range};
+use super::made::{heat, limit, link, outcome, outside, range};
 use balance::refusal::Refusal;
 use balance::system::System;
 use std::alloc::Global;
 use std::test::Fail;
+use systems::network::Network;
 use systems::record::Record;
 
 const CONDUCTANCE: i64 = 1_048_576;
@@ -14,7 +15,7 @@ const HEAT: i64 = 4_398_046_511_104;
 
 // What a network of two nodes with these records is answered with.
 fn made<const N: usize>(heap: Global, records: [Record; N]) -> Result<Result<(), Refusal>, Fail> {
-    Ok(outcome(network(2, records.to_vec(heap)?)))
+    Ok(outcome(Network::new(2, records.to_vec(heap)?)))
 }
 
 #[test]
@@ -22,11 +23,11 @@ fn at_most_256_records_over_1_to_32_nodes(rt: HostRuntime) -> Result<(), Fail> {
     let heap = rt.alloc();
     let wrong = Err(Refusal::Size { place: 0 });
     let one = heat(1, 0, 1);
-    assert_eq!(rt; outcome(network(1, vec![in heap; one; 256]?)), Ok(()));
-    assert_eq!(rt; outcome(network(1, vec![in heap; one; 257]?)), wrong);
-    assert_eq!(rt; outcome(network(32, vec![in heap; one; 0]?)), Ok(()));
-    assert_eq!(rt; outcome(network(33, vec![in heap; one; 0]?)), wrong);
-    assert_eq!(rt; outcome(network(0, vec![in heap; one; 0]?)), wrong);
+    assert_eq!(rt; outcome(Network::new(1, vec![in heap; one; 256]?)), Ok(()));
+    assert_eq!(rt; outcome(Network::new(1, vec![in heap; one; 257]?)), wrong);
+    assert_eq!(rt; outcome(Network::new(32, vec![in heap; one; 0]?)), Ok(()));
+    assert_eq!(rt; outcome(Network::new(33, vec![in heap; one; 0]?)), wrong);
+    assert_eq!(rt; outcome(Network::new(0, vec![in heap; one; 0]?)), wrong);
     Ok(())
 }
 
@@ -82,7 +83,7 @@ fn sums_of_coefficients_keep_the_limit(rt: HostRuntime) -> Result<(), Fail> {
         link(1, 2, 3, CONDUCTANCE),
         outside(2, range(1, 1), range(0, 0)),
     ];
-    let drum = network(2, records.to_vec(heap)?)?;
+    let drum = Network::new(2, records.to_vec(heap)?)?;
     assert_eq!(rt; drum.coefficient(1, 1), Ok((3, CONDUCTANCE)));
     assert_eq!(rt; drum.coefficient(1, 2), Ok((-CONDUCTANCE, -3)));
     assert_eq!(rt; drum.coefficient(2, 1), Ok((-CONDUCTANCE, -3)));
@@ -101,7 +102,7 @@ fn sums_of_right_sides_keep_the_limit(rt: HostRuntime) -> Result<(), Fail> {
         heat(2, -HEAT, HEAT - 1),
         heat(2, -1, 1),
     ];
-    let drum = network(2, records.to_vec(heap)?)?;
+    let drum = Network::new(2, records.to_vec(heap)?)?;
     assert_eq!(rt; drum.right_side(1), Ok((-HEAT, HEAT)));
     assert_eq!(rt; drum.right_side(2), Err(limit(2, 2, 3)));
     assert_eq!(rt; drum.right_side(0), Err(Refusal::Node { place: 0 }));
@@ -112,7 +113,7 @@ fn sums_of_right_sides_keep_the_limit(rt: HostRuntime) -> Result<(), Fail> {
 fn products_take_all_four_ends(rt: HostRuntime) -> Result<(), Fail> {
     let heap = rt.alloc();
     let records = [outside(1, range(2, 3), range(-10, 5)), link(2, 2, 3, 5)];
-    let drum = network(2, records.to_vec(heap)?)?;
+    let drum = Network::new(2, records.to_vec(heap)?)?;
     assert_eq!(rt; drum.right_side(1), Ok((-30, 15)));
     assert_eq!(rt; drum.coefficient(1, 1), Ok((2, 3)));
     assert_eq!(rt; drum.coefficient(2, 2), Ok((-4, 4)));

@@ -3,12 +3,13 @@
 
 ghost use Rattle.piles.specs.Worked.{WorkedPiles};
 
-use balance::cell::Cell;
 use balance::range::Range;
 use balance::refusal::Refusal;
 use balance::system::System;
 use balance::table::Table;
 use roast::roast::Roast;
+use std::alloc::Global;
+use std::fmt::Display;
 use systems::network::Network;
 use systems::record::Record;
 use systems::renumbering::Renumbering;
@@ -141,44 +142,26 @@ fn run(rt: &HostRuntime) -> anyhow::Result<()>
     print_piles(rt)
 }
 
-fn table<C: Cell + Drop>(size: usize, cells: Vec<C>) -> Result<Table<C>, Refusal> {
-    Ok(Table::new(size, cells)?)
-}
-
-// A key sequence, and whether it was taken.
-fn tell(rt: &HostRuntime, keys: &str, outcome: Result<(), Refusal>) -> anyhow::Result<()> {
-    match outcome {
-        Ok(()) => println!(rt; "  {keys}: taken")?,
+// A key sequence, and whether it was taken. What was made is let go. Each program has its own, as a shared one would be a public call that
+// promises nothing.
+fn tell<T: Drop, E: Display + Drop>(
+    rt: &HostRuntime,
+    keys: &str,
+    made: Result<T, E>,
+) -> anyhow::Result<()> {
+    match made {
+        Ok(_) => println!(rt; "  {keys}: taken")?,
         Err(refusal) => println!(rt; "  {keys}: {refusal}")?,
     }
     Ok(())
 }
 
-// What was made is let go; only the refusal is told.
-fn outcome<T: Drop>(made: Result<T, Refusal>) -> Result<(), Refusal> {
-    match made {
-        Ok(_) => Ok(()),
-        Err(refusal) => Err(refusal),
-    }
-}
-
-// The ranges of three nodes.
-type Ends = [(i64, i64); 3];
-
-fn network(size: usize, records: Vec<Record>) -> Result<Network, Refusal> {
-    Ok(Network::new(size, records)?)
-}
-
-fn scaled<S: System + Drop>(system: S, factors: Vec<i64>) -> Result<RowScaler<S>, Refusal> {
-    Ok(RowScaler::new(system, factors)?)
-}
-
-fn renumbered<S: System + Drop>(system: S, order: Vec<usize>) -> Result<Renumbering<S>, Refusal> {
-    Ok(Renumbering::new(system, order)?)
+fn drum(heap: Global) -> anyhow::Result<Network> {
+    Ok(Network::new(3, RECORDS.to_vec(heap)?)?)
 }
 
 // Opens a roast, makes rounds until one changes nothing, 64 at most, and asks for the ends.
-fn settled<S: System + Drop>(system: S) -> Result<Ends, Refusal> {
+fn settled<S: System + Drop>(system: S) -> Result<[Range; 3], Refusal> {
     let mut roast = Roast::new(system);
     roast.open(&[1, 1, 1])?;
     for _ in 0..64 {
@@ -186,18 +169,24 @@ fn settled<S: System + Drop>(system: S) -> Result<Ends, Refusal> {
             break;
         }
     }
-    Ok([roast.ends(1)?, roast.ends(2)?, roast.ends(3)?])
+    Ok([
+        roast.ends(1)?.into(),
+        roast.ends(2)?.into(),
+        roast.ends(3)?.into(),
+    ])
 }
 
 // Node i of a drum beside node p(i) of the table.
-fn compare(rt: &HostRuntime, drum: Ends, order: [usize; 3], keyed_in: Ends) -> anyhow::Result<()> {
-    for i in 0..3 {
-        let (lower, upper) = drum[i];
-        let node = i + 1;
-        let other = order[i];
-        print!(rt; "  node {node}: [{lower}, {upper}]; node {other} of the table: ")?;
+fn compare(
+    rt: &HostRuntime,
+    drum: [Range; 3],
+    order: [usize; 3],
+    keyed_in: [Range; 3],
+) -> anyhow::Result<()> {
+    for (i, (range, other)) in drum.iter().zip(order.iter()).enumerate() {
+        print!(rt; "  node {}: {range}; node {other} of the table: ", i + 1)?;
         match keyed_in.get(other.saturating_sub(1)) {
-            Some((l, u)) => println!(rt; "[{l}, {u}], {}", verdict(lower == *l && upper == *u))?,
+            Some(same) => println!(rt; "{same}, {}", verdict(range == same))?,
             None => println!(rt; "none")?,
         }
     }
@@ -210,46 +199,40 @@ fn verdict(agree: bool) -> &'static str {
 
 fn print_piles(rt: &HostRuntime) -> anyhow::Result<()> {
     let heap = rt.alloc();
-    let keyed_in = settled(table(3, CELLS.to_vec(heap)?)?)?;
+    let keyed_in = settled(Table::new(3, CELLS.to_vec(heap)?)?)?;
     println!(rt; "a drum of three nodes as a network of links, beside its table")?;
-    let drum = network(3, RECORDS.to_vec(heap)?)?;
-    compare(rt, settled(drum)?, [1, 2, 3], keyed_in)?;
+    compare(rt, settled(drum(heap)?)?, [1, 2, 3], keyed_in)?;
     println!(rt; "the network under a row scaler and a renumbering (3, 1, 2)")?;
-    let drum = network(3, RECORDS.to_vec(heap)?)?;
-    let scaler = scaled(drum, [2, -3, 5].to_vec(heap)?)?;
-    let pile = renumbered(scaler, [3, 1, 2].to_vec(heap)?)?;
+    let scaler = RowScaler::new(drum(heap)?, [2, -3, 5].to_vec(heap)?)?;
+    let pile = Renumbering::new(scaler, [3, 1, 2].to_vec(heap)?)?;
     compare(rt, settled(pile)?, [3, 1, 2], keyed_in)?;
     three_high(rt, keyed_in)?;
     slips(rt)
 }
 
 // Three layers over the network: renumbered, scaled, and renumbered back.
-fn three_high(rt: &HostRuntime, keyed_in: Ends) -> anyhow::Result<()> {
+fn three_high(rt: &HostRuntime, keyed_in: [Range; 3]) -> anyhow::Result<()> {
     let heap = rt.alloc();
     println!(rt; "a pile three high: renumbered, scaled, renumbered back")?;
-    let drum = network(3, RECORDS.to_vec(heap)?)?;
-    let there = renumbered(drum, [3, 1, 2].to_vec(heap)?)?;
-    let scaler = scaled(there, [-1, 7, -900].to_vec(heap)?)?;
-    let back = renumbered(scaler, [2, 3, 1].to_vec(heap)?)?;
+    let there = Renumbering::new(drum(heap)?, [3, 1, 2].to_vec(heap)?)?;
+    let scaler = RowScaler::new(there, [-1, 7, -900].to_vec(heap)?)?;
+    let back = Renumbering::new(scaler, [2, 3, 1].to_vec(heap)?)?;
     compare(rt, settled(back)?, [1, 2, 3], keyed_in)
 }
 
 fn slips(rt: &HostRuntime) -> anyhow::Result<()> {
     let heap = rt.alloc();
     println!(rt; "slips in networks and layers")?;
-    let drum = network(2, RECORDS.to_vec(heap)?);
-    tell(rt, "the records over two nodes", outcome(drum))?;
-    let drum = network(3, RECORDS.to_vec(heap)?)?;
-    let factors = [2, 0, 5].to_vec(heap)?;
-    tell(rt, "the factors 2, 0, 5", outcome(scaled(drum, factors)))?;
-    let drum = network(3, RECORDS.to_vec(heap)?)?;
-    let order = [3, 1, 3].to_vec(heap)?;
-    tell(rt, "the order 3, 1, 3", outcome(renumbered(drum, order)))?;
-    let drum = network(3, RECORDS.to_vec(heap)?)?;
-    let large = scaled(drum, [1, 1000, 1].to_vec(heap)?)?;
+    let made = Network::new(2, RECORDS.to_vec(heap)?);
+    tell(rt, "the records over two nodes", made)?;
+    let made = RowScaler::new(drum(heap)?, [2, 0, 5].to_vec(heap)?);
+    tell(rt, "the factors 2, 0, 5", made)?;
+    let made = Renumbering::new(drum(heap)?, [3, 1, 3].to_vec(heap)?);
+    tell(rt, "the order 3, 1, 3", made)?;
+    let large = RowScaler::new(drum(heap)?, [1, 1000, 1].to_vec(heap)?)?;
     tell(
         rt,
         "the coefficient of row 2, column 2 times 1000",
-        outcome(large.coefficient(2, 2)),
+        large.coefficient(2, 2),
     )
 }

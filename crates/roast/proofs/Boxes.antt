@@ -127,8 +127,8 @@ opened m B i r e = by (row_answers m B i) (holds_zero (coefficient_range m i i))
   where
     by : (t v : Bool) → row_answers m B i ≡ t → holds_zero (coefficient_range m i i) ≡ v → cond t (cond v None (shared (at B i) (quotient (numerator m B i) (coefficient_range m i i)))) None ≡ Some r → Opened m B i r
     by true false p s e = record { answers = p; apart = s; kept = e }
-    by true true p s e = let z : ◌≡◌ {A = ℕ} 0 1 = cc in absurd (omega arith)
-    by false v p s e = let z : ◌≡◌ {A = ℕ} 0 1 = cc in absurd (omega arith)
+    by true true p s e = cc
+    by false v p s e = cc
 
 pub opens : (m : Meaning) (B : Box) (i : ℕ) (r : Range) → Opened m B i r → narrowed m B i ≡ Some r
 opens m B i r o = rw (o.answers, o.apart) o.kept

@@ -5,7 +5,7 @@ use Rattle.balance.specs.declared.range.Range.{Range}
 use Rattle.balance.specs.Ranges.{range, Ordered}
 use Rattle.balance.specs.Meanings.{Meaning, IsNode, Same, Lawful, range_at, coefficient_range, right_side_range}
 use Rattle.balance.specs.Members.{Fraction, Member, Point, component, sum, Solves, SamePoint, ◌⊗◌}
-use Rattle.balance.proofs.Integers.{product_size}
+use Rattle.std.proofs.lemmas.Int.{unsigned_abs-mul}
 use Rattle.balance.proofs.Points.{picked_in}
 use Rattle.roast.specs.Certificates.{magnitude, mignitude, u, sum_without, largest, others, v, rounded_up, k, LeastBound, listed, first_range, first_box, Passes}
 use Rattle.roast.specs.Narrowing.{Box}
@@ -77,7 +77,7 @@ module _ (m : Meaning) (us : List ℤ) (lawful : Lawful m) (passes : Passes m us
         (size-≈ (sum (term s x i) m.size) (s.right_side i) (magnitude (right_side_range m i)) (solves i h) (at_most_magnitude (s.right_side i) (right_side_range m i) (picked_in (m.right_side i) (s.right_side i) (s.right_sides_picked i h))))
       where
         size_term : (j : ℕ) → x.over * size (term s x i j) ≡ x.over * (size (s.coefficient i j) * P j)
-        size_term j = ap (λ n. x.over * n) (product_size (s.coefficient i j).top (x.numerator j))
+        size_term j = ap (λ n. x.over * n) (unsigned_abs-mul (s.coefficient i j).top (x.numerator j))
 
     small : (j : ℕ) → IsNode m j → P j ≤ k m us j * x.over
     small j h = go (bounded P (λ i. x.over * magnitude (right_side_range m i)) row)

@@ -15,4 +15,3 @@ pub mod Steps
 pub mod Records
 pub mod Certified
 pub mod Openings
-pub mod Playing

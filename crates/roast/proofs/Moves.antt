@@ -9,10 +9,10 @@ use Rattle.balance.specs.Ranges.{range, ◌⊆◌}
 use Rattle.balance.specs.Meanings.{Meaning, is_node, coefficient_range}
 use Rattle.balance.specs.Rows.{at}
 use Rattle.roast.specs.declared.call.Reading.{Reading}
-use Rattle.roast.specs.declared.call.Answer.TheVariants.{Ends, Refused}
+use Rattle.roast.specs.declared.call.Answer.TheVariants.{Ends}
 use Rattle.roast.specs.Rounding.{quotient, shared}
 use Rattle.roast.specs.Narrowing.{Box, narrowed, numerator, take, Sweep, swept, stopped, sweep, sweep_on, sweep_next}
-use Rattle.roast.specs.Machine.{Ask, row_step_at, round, reading_at, readings, rest, ends_at, tells, step_outcome, sweep_outcome, reading_outcome, readings_outcome, mark, marked, outcome, after}
+use Rattle.roast.specs.Machine.{Ask, row_step_at, round, reading_at, readings, rest, ends_at, tells, refuses, step_outcome, sweep_outcome, reading_outcome, readings_outcome, mark, marked, outcome, after}
 use Rattle.roast.specs.Runs.{Bound, accepted_if, accepted_records, accepted_one, accepted, Among, here, there}
 use Rattle.roast.proofs.Quotients.{Shared, shared_is}
 use Rattle.roast.proofs.Boxes.{nothing, ◌⊑◌, Tidy, ⊆-trans, ⊑_refl, ⊑_trans, set_tidy, set_below, opened}
@@ -40,13 +40,13 @@ is_in B i e = by (leb 1 i) (leb i (length B)) refl refl e
   where
     by : (t u : Bool) → leb 1 i ≡ t → leb i (length B) ≡ u → cond t u false ≡ true → IsIn B i
     by true true p q e = (leb-true 1 i p, leb-true i (length B) q)
-    by true false p q e = let z : ◌≡◌ {A = ℕ} 0 1 = cc in absurd (omega arith)
-    by false u p q e = let z : ◌≡◌ {A = ℕ} 0 1 = cc in absurd (omega arith)
+    by true false p q e = cc
+    by false u p q e = cc
 
 reading_moves : (m : Meaning) (B : Box) (i : ℕ) (l u : ℤ) → Move m B (reading_outcome B i l u).box (accepted_if (eqb (mark (reading_outcome B i l u).answer) 0) i l u)
 reading_moves m B i l u = by (is_node (length B) i) refl (lt_z u l) (shared (at B i) (range l u)) refl
   where
-    by : (t : Bool) → is_node (length B) i ≡ t → (v : Bool) (o : Option Range) → shared (at B i) (range l u) ≡ o → Move m B (cond t (cond v (tells B (Refused (Crossed i))) (step_outcome B (take B i o))) (tells B (Refused (Node i)))).box (accepted_if (eqb (mark (cond t (cond v (tells B (Refused (Crossed i))) (step_outcome B (take B i o))) (tells B (Refused (Node i)))).answer) 0) i l u)
+    by : (t : Bool) → is_node (length B) i ≡ t → (v : Bool) (o : Option Range) → shared (at B i) (range l u) ≡ o → Move m B (cond t (cond v (refuses B (Crossed i)) (step_outcome B (take B i o))) (refuses B (Node i))).box (accepted_if (eqb (mark (cond t (cond v (refuses B (Crossed i)) (step_outcome B (take B i o))) (refuses B (Node i))).answer) 0) i l u)
     by true e true o f = stays
     by true e false (Some r) f = read (is_in B i e) f
     by true e false None f = stays
@@ -86,7 +86,7 @@ sweep_moves m B (suc k) p = next (sweep m B k) (sweep_moves m B k (omega arith))
 pub call_moves : (m : Meaning) (B : Box) (c : Ask) → Move m B (outcome m B c).box (accepted_one m B c)
 call_moves m B (row_step_at i) = by (is_node (length B) i) refl (narrowed m B i) refl
   where
-    by : (t : Bool) → is_node (length B) i ≡ t → (o : Option Range) → narrowed m B i ≡ o → Move m B (cond t (step_outcome B (take B i o)) (tells B (Refused (Node i)))).box []
+    by : (t : Bool) → is_node (length B) i ≡ t → (o : Option Range) → narrowed m B i ≡ o → Move m B (cond t (step_outcome B (take B i o)) (refuses B (Node i))).box []
     by true e (Some r) f = row (is_in B i e) f
     by true e None f = stays
     by false e o f = stays
@@ -100,7 +100,7 @@ call_moves m B (readings rs) = let h = readings_moves m B [] rs in subst (λ bs.
 call_moves m B rest = stays
 call_moves m B (ends_at i) = by (is_node (length B) i)
   where
-    by : (t : Bool) → Move m B (cond t (tells B (Ends (at B i).lower (at B i).upper)) (tells B (Refused (Node i)))).box []
+    by : (t : Bool) → Move m B (cond t (tells B (Ends ((at B i).lower, (at B i).upper))) (refuses B (Node i))).box []
     by true = stays
     by false = stays
 

@@ -3,7 +3,7 @@ use Rattle.std.proofs.Common.{◌≡◌, ℕ, zero, suc, ◌+◌, ◌*◌, ◌<�
 use lib.IntN.{*ℤ_comm}
 use borrow.Author.Differences.{up, down, ints}
 use Rattle.std.specs.Int.{int_div_euclid}
-use Rattle.roast.specs.Rounding.{floor, ceiling}
+use Rattle.roast.specs.Rounding.{floor}
 
 pub ≤_trans : (a b c : ℤ) → a ≤ℤ b → b ≤ℤ c → a ≤ℤ c
 ≤_trans a b c h k = omega (arith, ints)
@@ -46,15 +46,10 @@ floor_above (pos z) (negsuc m) d p = (λ h. absurd h.le, λ h. absurd h.le)
 floor_above (negsuc z) (pos m) d p = (λ h. omega (arith, ints), λ h. omega (arith, ints))
 floor_above (negsuc z) (negsuc m) d p = (λ h. let k = (div-lt_iff_lt-mul {x = m} {y = suc z} p).0 (omega (arith, ints)) in omega (arith, ints), λ h. let k = (div-lt_iff_lt-mul {x = m} {y = suc z} p).1 (omega (arith, ints)) in omega (arith, ints))
 
--- z is at most m / d rounded down exactly if z d ≤ m, and the mirror image
+-- z is at most m / d rounded down exactly if z d ≤ m
 pub floor_is : (z m d : ℤ) → pos 0 <ℤ d → (z ≤ℤ floor m d) ↔ ((z *ℤ d) ≤ℤ m)
 floor_is z m (pos d) s = floor_above z m d (omega (arith, ints))
 floor_is z m (negsuc d) s = absurd s.lt
-
-pub ceiling_is : (z m d : ℤ) → pos 0 <ℤ d → (ceiling m d ≤ℤ z) ↔ (m ≤ℤ (z *ℤ d))
-ceiling_is z m d s =
-    let f = floor_is (neg_ℤ z) (neg_ℤ m) d s in
-    (λ h. let k = f.0 (omega (arith, ints)) in let k' = simp neg_times at k in omega (arith, ints), λ h. let k = f.1 (simp neg_times (omega (arith, ints))) in omega (arith, ints))
 
 -- a quotient is no larger than what is divided
 pub quotient_within : (m d : ℤ) → pos 0 <ℤ d → nat_abs (int_div_euclid m d) ≤ nat_abs m

@@ -1,5 +1,5 @@
 -- An opening succeeds exactly when every place answers, the certificate passes and the first box keeps its limit.
-use Rattle.std.proofs.Common.{◌≡◌, ℕ, zero, suc, ◌^◌, ◌≤◌, Bool, true, false, cond, eqb, leb, List, length, ℤ, pos, ◌≤ℤ◌, Some, None, Ok, Err, Option, Result, refl, arith}
+use Rattle.std.proofs.Common.{◌≡◌, ◌^◌, true, eqb, leb, List, length, ℤ, pos, ◌≤ℤ◌, Some, None, Ok, Err, Option, refl, arith}
 use lib.Signed.{le_z}
 use borrow.Author.Differences.{ints}
 use Rattle.std.proofs.lemmas.Bool.{eq-eqb, le-leb, leb-true}
@@ -10,15 +10,10 @@ use Rattle.balance.specs.Places.{first, unless_refused, refusal_at, row_refusal,
 use Rattle.balance.specs.Points.{between}
 use Rattle.balance.proofs.Searches.{none_of, all_answer}
 use Rattle.roast.specs.Certificates.{number, v, k, first_box, number_refusal, certificate_refusal, dominance_refusal, wide_refusal, opening, Opens, OpensExactly}
-use Rattle.roast.specs.Narrowing.{Box}
-use Rattle.roast.specs.Answers.{opened, opened_box}
-use Rattle.roast.proofs.Certified.{certified}
+use Rattle.balance.proofs.Entries.{none_all}
+use Rattle.roast.proofs.Certified.{kept, certified}
 
 -- ---- from no refusal
-
-kept : (b : Bool) (x : Refusal) → cond b None (Some x) ≡ None → b ≡ true
-kept true x h = refl
-kept false x h = let z : ◌≡◌ {A = ℕ} 0 1 = cc in absurd (omega arith)
 
 module _ (m : Meaning) (us : List ℤ) where
   opens : first_refusal m ≡ None → certificate_refusal m.size us ≡ None → first (dominance_refusal m us) m.size ≡ None → first (wide_refusal m us) m.size ≡ None → Opens m us
@@ -36,10 +31,6 @@ module _ (m : Meaning) (us : List ℤ) where
       at_least z h = omega (arith, ints)
 
 -- ---- to no refusal
-
-none_all : (f : ℕ → Option Refusal) (n : ℕ) → ((j : ℕ) → 1 ≤ j → j ≤ n → f j ≡ None) → first f n ≡ None
-none_all f zero h = refl
-none_all f (suc n) h = rw (none_all f n (λ j p q. h j p (omega arith)), h (suc n) (omega arith) (omega arith))
 
 told_none : (p : Place) → Told p → refusal_at p ≡ None
 told_none (told r) t = refl
@@ -73,7 +64,7 @@ pub opens_exactly : (m : Meaning) (us : List ℤ) → OpensExactly m us (opening
 opens_exactly m us = by (first_refusal m) (certificate_refusal m.size us) (first (dominance_refusal m us) m.size) (first (wide_refusal m us) m.size) refl refl refl refl
   where
     not_opened : (e : Refusal) → opening m us ≡ Err e → Opens m us → ⊥
-    not_opened e h o = let s = opens_so m us o in let z : ◌≡◌ {A = ℕ} 0 1 = cc in omega arith
+    not_opened e h o = cc (opens_so m us o)
 
     by : (a b d w : Option Refusal) → first_refusal m ≡ a → certificate_refusal m.size us ≡ b → first (dominance_refusal m us) m.size ≡ d → first (wide_refusal m us) m.size ≡ w → OpensExactly m us (unless_refused a (unless_refused b (unless_refused d (unless_refused w (Ok (first_box m us))))))
     by None None None None a b d w = (opens m us a b d w, refl)
@@ -81,8 +72,3 @@ opens_exactly m us = by (first_refusal m) (certificate_refusal m.size us) (first
     by None None (Some e) wo a b d w = not_opened e (rw (a, b, d))
     by None (Some e) dd wo a b d w = not_opened e (rw (a, b))
     by (Some e) bo dd wo a b d w = not_opened e (rw a)
-
--- a refused opening leaves the box
-pub refused_stays : (x : Box) (o : Result Box Refusal) (e : Refusal) → Err e ≡ opened o → opened_box x o ≡ x
-refused_stays x (Ok b) e h = let z : ◌≡◌ {A = ℕ} 0 1 = cc in absurd (omega arith)
-refused_stays x (Err r) e h = refl

@@ -1,5 +1,5 @@
 -- The order of calls does not matter: every run that accepts what a run to rest accepted keeps the resting box.
-use Rattle.std.proofs.Common.{◌≡◌, ℕ, zero, suc, ◌-◌, ◌≤◌, Bool, true, false, cond, not, List, [], ◌∷◌, length, Some, None, Option, sym, refl, ◌∙◌, subst, arith}
+use Rattle.std.proofs.Common.{◌≡◌, ℕ, zero, suc, ◌-◌, ◌≤◌, Bool, true, false, cond, not, List, [], ◌∷◌, length, Some, None, Err, Option, sym, refl, ◌∙◌, subst, arith}
 use lib.Signed.{le_z}
 use borrow.Author.Differences.{ints}
 use Rattle.balance.specs.declared.range.Range.{Range}
@@ -8,9 +8,8 @@ use Rattle.balance.specs.Ranges.{◌⊆◌}
 use Rattle.balance.specs.Meanings.{Meaning, is_node, Same, Lawful}
 use Rattle.balance.specs.Rows.{at}
 use Rattle.balance.proofs.Points.{every_passes}
-use Rattle.roast.specs.declared.call.Answer.TheVariants.{Refused}
 use Rattle.roast.specs.Narrowing.{Box, narrowed, same_number, same_range, take, row_step, rests, Sweep, swept, stopped, sweep, sweep_on, sweep_next}
-use Rattle.roast.specs.Machine.{Ask, row_step_at, round, reading_at, readings, rest, ends_at, tells, step_outcome, sweep_outcome, outcome, after}
+use Rattle.roast.specs.Machine.{Ask, row_step_at, round, reading_at, readings, rest, ends_at, refuses, step_outcome, sweep_outcome, outcome, after}
 use Rattle.roast.specs.Runs.{Bound, accepted, accepted_one, Among, here, SameSet, Rests, Calm, NoConflict}
 use Rattle.roast.proofs.Quotients.{shared_is}
 use Rattle.roast.proofs.Boxes.{◌⊑◌, Tidy, ⊆-trans, ⊑-antisym, set_above, same_back, same_lawful, row_mono}
@@ -20,7 +19,7 @@ use Rattle.roast.proofs.Moves.{IsIn, is_in, Move, stays, row, read, then, move_l
 
 both : (t u : Bool) → cond t u false ≡ true → (t ≡ true) × (u ≡ true)
 both true u e = (refl, e)
-both false u e = let z : ◌≡◌ {A = ℕ} 0 1 = cc in absurd (omega arith)
+both false u e = cc
 
 same_inside : (r s : Range) → same_range r s ≡ true → r ⊆ s
 same_inside r s e =
@@ -42,7 +41,7 @@ step_kept m X i e = by (narrowed m X i) refl e
 
     by : (o : Option Range) → narrowed m X i ≡ o → rests (take X i o) ≡ true → Kept m X i
     by (Some r) f e = (r, f, same_inside (at X i) r (twice _ e))
-    by None f e = let z : ◌≡◌ {A = ℕ} 0 1 = cc in absurd (omega arith)
+    by None f e = cc
 
 -- ---- runs under m' that keep a box X which rests under m
 
@@ -78,13 +77,13 @@ module _ (m m' : Meaning) (same : Same m m') (lawful : Lawful m) (X : Box) (fit 
   call_calm : (B : Box) → X ⊑ B → (c : Ask) → Calm c (outcome m' B c).answer
   call_calm B h (row_step_at i) = λ j. by j (is_node (length B) i) refl (narrowed m' B i) refl
     where
-      by : (j : ℕ) (t : Bool) → is_node (length B) i ≡ t → (o : Option Range) → narrowed m' B i ≡ o → (cond t (step_outcome B (take B i o)) (tells B (Refused (Node i)))).answer ≡ Refused (Conflict j) → ⊥
+      by : (j : ℕ) (t : Bool) → is_node (length B) i ≡ t → (o : Option Range) → narrowed m' B i ≡ o → (cond t (step_outcome B (take B i o)) (refuses B (Node i))).answer ≡ Err (Conflict j) → ⊥
       by j true e (Some r) g f = let z : ◌≡◌ {A = ℕ} 0 1 = cc in omega arith
       by j true e None g f = let k = (row_keeps B i h (is_in B i e)).1 in let z : ◌≡◌ {A = ℕ} 0 1 = cc in omega arith
       by j false e o g f = let z : ◌≡◌ {A = ℕ} 0 1 = cc in omega arith
   call_calm B h round = λ j. by j (sweep m' B (length B)) (sweep_keeps B h (length B) (omega arith))
     where
-      by : (j : ℕ) (w : Sweep) → Held w → (sweep_outcome B w).answer ≡ Refused (Conflict j) → ⊥
+      by : (j : ℕ) (w : Sweep) → Held w → (sweep_outcome B w).answer ≡ Err (Conflict j) → ⊥
       by j (swept n C) g f = let z : ◌≡◌ {A = ℕ} 0 1 = cc in omega arith
       by j (stopped i) g f = g
   call_calm B h (reading_at i l u) = tt

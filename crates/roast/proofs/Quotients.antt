@@ -1,6 +1,6 @@
 -- The laws of the rounded quotient and of the common part, and what follows from them.
-use Rattle.std.proofs.Common.{◌≡◌, ℕ, Bool, true, false, cond, T, ◌⊎◌, ◌↔◌, ℤ, pos, ◌*ℤ◌, neg_ℤ, ◌≤ℤ◌, ◌<ℤ◌, Some, None, Option, sym, refl, ◌∙◌, subst, inl, inr, ⊎_elim, arith}
-use lib.IntN.{*ℤ_comm, zero-*ℤ}
+use Rattle.std.proofs.Common.{◌≡◌, Bool, true, false, cond, T, ◌⊎◌, ◌↔◌, ℤ, pos, ◌*ℤ◌, neg_ℤ, ◌≤ℤ◌, ◌<ℤ◌, Some, None, Option, sym, refl, ◌∙◌, subst, inl, inr, ⊎_elim, arith}
+use lib.IntN.{*ℤ_comm, zero-*ℤ, neg_ℤ-neg_ℤ}
 use lib.Signed.{le_z, lt_z, ≤ℤ_refl}
 use borrow.Author.Differences.{ints}
 use Rattle.std.specs.Int.{int_min, int_max}
@@ -64,7 +64,7 @@ sign_yes M e = omega (arith, ints)
 sign_no : (M : ℤ) → le_z (pos 0) M ≡ false → M ≤ℤ pos 0
 sign_no M e = omega (arith, ints)
 
-above_rounds : (m d : Range) → pos 0 <ℤ d.lower → Ordered m → Ordered d → RoundedOutward m d (quotient_above m d)
+pub above_rounds : (m d : Range) → pos 0 <ℤ d.lower → Ordered m → Ordered d → RoundedOutward m d (quotient_above m d)
 above_rounds m d s o o' = record {
   lower_end = λ z. let p = pick_low m.lower z d.lower d.upper (le_z (pos 0) m.lower) (sign_yes m.lower) (sign_no m.lower) s o' in (
     λ h n a i j. let k = p.0 h in (λ t. below_all z m.lower m.upper n d.lower d.upper i a j k.0 k.1, λ t. let w = j.0 in absurd (omega (arith, ints))),
@@ -80,9 +80,6 @@ above_rounds m d s o o' = record {
 
 inside_negated : (n : ℤ) (m : Range) → Inside n m → Inside (neg_ℤ n) (negated m)
 inside_negated n m h = let l = h.0 in let u = h.1 in (omega (arith, ints), omega (arith, ints))
-
-twice : (n : ℤ) → neg_ℤ (neg_ℤ n) ≡ n
-twice n = omega (arith, ints)
 
 at_most_negated : (z n a : ℤ) → AtMost z (neg_ℤ n) (neg_ℤ a) → AtMost z n a
 at_most_negated z n a h = (λ s. let k = rw (times_neg z a) at (h.1 (omega (arith, ints))) in omega (arith, ints), λ s. let k = rw (times_neg z a) at (h.0 (omega (arith, ints))) in omega (arith, ints))
@@ -100,7 +97,7 @@ module _ (m d : Range) (P : ℤ → ℤ → Type 0) (turn : (n a : ℤ) → P (n
   from_negated : ((n a : ℤ) → Inside n (negated m) → Inside a (negated d) → P n a) → (n a : ℤ) → Inside n m → Inside a d → P n a
   from_negated h n a i j = turn n a (h (neg_ℤ n) (neg_ℤ a) (inside_negated n m i) (inside_negated a d j))
 
-negated_rounds : (m d q : Range) → RoundedOutward (negated m) (negated d) q → RoundedOutward m d q
+pub negated_rounds : (m d q : Range) → RoundedOutward (negated m) (negated d) q → RoundedOutward m d q
 negated_rounds m d q r = record {
   lower_end = λ z. (λ h. from_negated m d (AtMost z) (at_most_negated z) ((r.lower_end z).0 h), λ h. (r.lower_end z).1 (to_negated m d (AtMost z) (at_most_negated z) h));
   upper_end = λ z. (λ h. from_negated m d (AtLeast z) (at_least_negated z) ((r.upper_end z).0 h), λ h. (r.upper_end z).1 (to_negated m d (AtLeast z) (at_least_negated z) h));
@@ -110,14 +107,14 @@ pub rounds_negated : (m d q : Range) → RoundedOutward m d q → RoundedOutward
 rounds_negated m d q r = negated_rounds (negated m) (negated d) q (subst (λ e. RoundedOutward (negated (negated m)) e q) (sym (back d)) (subst (λ e. RoundedOutward e d q) (sym (back m)) r))
   where
     back : (a : Range) → negated (negated a) ≡ a
-    back a = λ i. range (twice a.lower i) (twice a.upper i)
+    back a = λ i. range (neg_ℤ-neg_ℤ a.lower i) (neg_ℤ-neg_ℤ a.upper i)
 
 -- a range that does not hold 0 lies above it or below it
 pub sign_of : (d : Range) → holds_zero d ≡ false → Ordered d → (pos 0 <ℤ d.lower) ⊎ (d.upper <ℤ pos 0)
 sign_of d e o = by (le_z d.lower (pos 0)) (le_z (pos 0) d.upper) refl refl e
   where
     by : (s t : Bool) → le_z d.lower (pos 0) ≡ s → le_z (pos 0) d.upper ≡ t → cond s t false ≡ false → (pos 0 <ℤ d.lower) ⊎ (d.upper <ℤ pos 0)
-    by true true p q h = let z : ◌≡◌ {A = ℕ} 0 1 = cc in absurd (omega arith)
+    by true true p q h = cc
     by true false p q h = inr (omega (arith, ints))
     by false t p q h = inl (omega (arith, ints))
 

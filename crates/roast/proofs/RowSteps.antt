@@ -1,5 +1,5 @@
 -- A row step as the code makes it: from the sum of the row, the right side and the diagonal.
-use Rattle.std.proofs.Common.{◌≡◌, ℕ, zero, suc, ◌-◌, ◌^◌, ◌<◌, ◌≤◌, Bool, true, false, cond, eqb, [], ◌∷◌, map, length, get_or, ℤ, ◌≤ℤ◌, Some, None, sym, refl, ap, ◌∙◌, subst, ap₂, arith}
+use Rattle.std.proofs.Common.{◌≡◌, ℕ, zero, suc, ◌-◌, ◌^◌, ◌<◌, ◌≤◌, Bool, true, false, cond, eqb, [], ◌∷◌, map, length, ℤ, ◌≤ℤ◌, Some, None, sym, refl, ap, ◌∙◌, subst, ap₂, arith}
 use native.Mathlib.Decide.{ℕ_discrete}
 use lib.Signed.{le_z}
 use borrow.Author.Differences.{ints}
@@ -13,7 +13,7 @@ use Rattle.balance.specs.Rows as rows
 use Rattle.balance.specs.Rows.{at, found, small, added, sum_of, row_sum}
 use Rattle.balance.proofs.Searches.{coefficient_at, right_side_at}
 use Rattle.roast.specs.Rounding.{holds_zero, quotient, shared}
-use Rattle.roast.specs.Narrowing.{Box, is_told, row_answers, term, numerator, narrowed}
+use Rattle.roast.specs.Narrowing.{Box, AllBetween, is_told, row_answers, term, numerator, narrowed}
 use Rattle.roast.proofs.Boxes.{nothing}
 
 -- ---- a box of ranges in order tells itself
@@ -24,9 +24,12 @@ ordered_told x h = let t : le_z x.lower x.upper ≡ true = yes_le x.lower x.uppe
     yes_le : (a b : ℤ) → a ≤ℤ b → le_z a b ≡ true
     yes_le a b k = grind (arith, ints)
 
-pub told_itself : (xs : Box) → ((k : ℕ) → Between (2 ^ 30) (get_or xs k nothing)) → map range_ends xs ≡ xs
+told_itself : (xs : Box) → AllBetween (2 ^ 30) xs → map range_ends xs ≡ xs
 told_itself [] h = refl
 told_itself (x ∷ xs) h = ap₂ (λ y ys. y ∷ ys) (ordered_told x (h zero).1) (told_itself xs (λ k. h (suc k)))
+
+pub row_told : (m : Meaning) (xs ys : Box) (i : ℕ) → ys ≡ xs → AllBetween (2 ^ 30) xs → row_sum m (map range_ends ys) i i ≡ row_sum m xs i i
+row_told m xs ys i e h = ap (λ zs. row_sum m zs i i) (ap (map range_ends) e ∙ told_itself xs h)
 
 narrow_small : (x : Range) → Between (2 ^ 30) x → small x ≡ true
 narrow_small x h = let l = h.0 in let u = h.2 in grind (arith, ints)
@@ -41,7 +44,7 @@ term_by : (p : Place) (x : Range) → small x ≡ true → rows.product (found (
 term_by (told r) x s = rw s
 term_by (refused a b c) x s = refl
 
-module _ (m : Meaning) (xs : Box) (i : ℕ) (node : IsNode m i) (narrow : (k : ℕ) → Between (2 ^ 30) (get_or xs k nothing)) where
+module _ (m : Meaning) (xs : Box) (i : ℕ) (node : IsNode m i) (narrow : AllBetween (2 ^ 30) xs) where
   one_term : (j : ℕ) → IsNode m j → (t : Bool) → cond t (Some nothing) (rows.product (found (coefficient_answer m i j)) (at xs j)) ≡ cond (cond t true (is_told (m.coefficient i j))) (Some (cond t nothing (times (coefficient_range m i j) (at xs j)))) None
   one_term j n true = refl
   one_term j n false = ap (λ a. rows.product (found a) (at xs j)) (coefficient_at m i j node n) ∙ term_by (m.coefficient i j) (at xs j) (narrow_small (at xs j) (narrow (j - 1)))
@@ -93,9 +96,9 @@ every_split p i (suc n) h k = go (ℕ_discrete (suc n) i) (λ l. every_split p i
 
 told_if : (p : Place) (r : Range) → Some r ≡ found (answer p) → (is_told p ≡ true) × (range_at p ≡ r)
 told_if (told q) r h = (refl, cc)
-told_if (refused a b c) r h = let z : ◌≡◌ {A = ℕ} 0 1 = cc in absurd (omega arith)
+told_if (refused a b c) r h = cc
 
-module _ (m : Meaning) (xs : Box) (i : ℕ) (lower : 1 ≤ i) (upper : i ≤ length xs) (narrow : (k : ℕ) → Between (2 ^ 30) (get_or xs k nothing)) where
+module _ (m : Meaning) (xs : Box) (i : ℕ) (lower : 1 ≤ i) (upper : i ≤ length xs) (narrow : AllBetween (2 ^ 30) xs) where
   answers_is : length xs ≡ m.size → row_answers m xs i ≡ cond (cond (others_told m i m.size) (is_told (m.coefficient i i)) false) (is_told (m.right_side i)) false
   answers_is h =
       let t : eqb (length xs) m.size ≡ true = eq-eqb (length xs) m.size h in
@@ -119,7 +122,7 @@ module _ (m : Meaning) (xs : Box) (i : ℕ) (lower : 1 ≤ i) (upper : i ≤ len
       (λ a b. no_answer b)
     where
       by : length xs ≡ m.size → (t : Bool) → others_told m i m.size ≡ t → None ≡ cond t (Some (total (term m xs i) m.size)) None → narrowed m xs i ≡ None
-      by e true f k = let z : ◌≡◌ {A = ℕ} 0 1 = cc in absurd (omega arith)
+      by e true f k = cc
       by e false f k = no_answer (rw (answers_is e, f))
 
   -- all three are there
@@ -133,7 +136,7 @@ module _ (m : Meaning) (xs : Box) (i : ℕ) (lower : 1 ≤ i) (upper : i ≤ len
     there : There
     there = fits
         (λ e. by e (others_told m i m.size) refl (s ∙ row_plain m xs i (lower, omega arith) narrow e))
-        (λ a k. let z : ◌≡◌ {A = ℕ} 0 1 = cc in absurd (omega arith))
+        (λ a k. cc)
       where
         by : length xs ≡ m.size → (t : Bool) → others_told m i m.size ≡ t → Some sum ≡ cond t (Some (total (term m xs i) m.size)) None → There
         by e true f k =
@@ -141,7 +144,7 @@ module _ (m : Meaning) (xs : Box) (i : ℕ) (lower : 1 ≤ i) (upper : i ≤ len
             let p = told_if (m.right_side i) side (b ∙ ap found (right_side_at m i node)) in
             let q = told_if (m.coefficient i i) diagonal (d ∙ ap found (coefficient_at m i i node node)) in
             record { answers = answers_is e ∙ ap₂ (λ x y. cond x y false) (ap₂ (λ x y. cond x y false) f q.0) p.0; sum_is = cc; side_is = p.1; diagonal_is = q.1 }
-        by e false f k = let z : ◌≡◌ {A = ℕ} 0 1 = cc in absurd (omega arith)
+        by e false f k = cc
 
     pub leaves : holds_zero diagonal ≡ false → narrowed m xs i ≡ shared (at xs i) (quotient (minus side sum) diagonal)
     leaves h = rw there.answers (ap (λ t. cond t None (shared (at xs i) (quotient (numerator m xs i) (coefficient_range m i i)))) (ap holds_zero there.diagonal_is ∙ h) ∙ (λ k. shared (at xs i) (quotient (minus (there.side_is k) (there.sum_is k)) (there.diagonal_is k))))

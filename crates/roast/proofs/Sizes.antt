@@ -5,7 +5,8 @@ use native.Mathlib.Nat.{le_of_mul-le-mul_left, eq_of_mul-eq-mul_right}
 use borrow.Author.Differences.{ints, up, down, same_in, product_is}
 use Rattle.balance.specs.declared.range.Range.{Range}
 use Rattle.balance.specs.Members.{Fraction, sum, ◌∈◌, ◌≈◌, ◌⊗◌, ◌⊕◌}
-use Rattle.balance.proofs.Integers.{times_assoc, sum_times, product_size}
+use Rattle.std.proofs.lemmas.Int.{unsigned_abs-mul}
+use Rattle.balance.proofs.Integers.{times_assoc, sum_times}
 use Rattle.roast.specs.Certificates.{magnitude, mignitude, sum_without}
 use Rattle.roast.proofs.Numbers.{neg_times}
 use Rattle.roast.proofs.Sums.{In, without_last, with_last}
@@ -32,8 +33,8 @@ sum_size a b = omega (arith, ints)
 
 pub at_most_magnitude : (f : Fraction) (r : Range) → f ∈ r → nat_abs f.top ≤ magnitude r * f.bottom
 at_most_magnitude f r h =
-    let l : nat_abs (r.lower *ℤ pos f.bottom) ≡ nat_abs r.lower * f.bottom = product_size r.lower (pos f.bottom) in
-    let u : nat_abs (r.upper *ℤ pos f.bottom) ≡ nat_abs r.upper * f.bottom = product_size r.upper (pos f.bottom) in
+    let l : nat_abs (r.lower *ℤ pos f.bottom) ≡ nat_abs r.lower * f.bottom = unsigned_abs-mul r.lower (pos f.bottom) in
+    let u : nat_abs (r.upper *ℤ pos f.bottom) ≡ nat_abs r.upper * f.bottom = unsigned_abs-mul r.upper (pos f.bottom) in
     let m : nat_abs r.lower ≤ magnitude r = omega arith in
     let n : nat_abs r.upper ≤ magnitude r = omega arith in
     let k : nat_abs f.top ≤ max (nat_abs (r.lower *ℤ pos f.bottom)) (nat_abs (r.upper *ℤ pos f.bottom)) = omega (arith, ints) in
@@ -49,7 +50,7 @@ abbrev pub size : Fraction → ℕ
 size f = nat_abs f.top
 
 size-⊕ : (f g : Fraction) → (size (f ⊕ g) ≤ size f * g.bottom + size g * f.bottom) × (size f * g.bottom ≤ size (f ⊕ g) + size g * f.bottom) × (size g * f.bottom ≤ size (f ⊕ g) + size f * g.bottom)
-size-⊕ f g = omega (arith, sum_size (f.top *ℤ pos g.bottom) (g.top *ℤ pos f.bottom), product_size f.top (pos g.bottom), product_size g.top (pos f.bottom))
+size-⊕ f g = omega (arith, sum_size (f.top *ℤ pos g.bottom) (g.top *ℤ pos f.bottom), unsigned_abs-mul f.top (pos g.bottom), unsigned_abs-mul g.top (pos f.bottom))
 
 -- q × |f j| ≤ w j at every place j, and l ≤ q × |f i|
 module _ (f : ℕ → Fraction) (w : ℕ → ℕ) (n i q l : ℕ) (inside : In n i) (each : (j : ℕ) → In n j → q * size (f j) ≤ (f j).bottom * w j) (own : (f i).bottom * l ≤ q * size (f i)) where
@@ -120,8 +121,8 @@ no_difference f g h p q =
 
 -- two names of one number have one bound
 pub size-≈ : (f g : Fraction) (b : ℕ) → f ≈ g → size g ≤ b * g.bottom → size f ≤ b * f.bottom
-size-≈ f g b p h = le_of_mul-le-mul_right {m = size f} {n = b * f.bottom} {k = g.bottom} (omega (arith, ap nat_abs p, product_size f.top (pos g.bottom), product_size g.top (pos f.bottom), mul-le-mul_right f.bottom h)) g.positive
+size-≈ f g b p h = le_of_mul-le-mul_right {m = size f} {n = b * f.bottom} {k = g.bottom} (omega (arith, ap nat_abs p, unsigned_abs-mul f.top (pos g.bottom), unsigned_abs-mul g.top (pos f.bottom), mul-le-mul_right f.bottom h)) g.positive
 
 -- a times x, minus a times y
 pub size-⊗ : (a x y : Fraction) → size ((a ⊗ x) ⊖ (a ⊗ y)) ≡ size (x ⊖ y) * (size a * a.bottom)
-size-⊗ a x y = rw (times_exchange a.top x.top (pos a.bottom) (pos y.bottom), times_exchange a.top y.top (pos a.bottom) (pos x.bottom), ← minus_times, product_size, product_size)
+size-⊗ a x y = rw (times_exchange a.top x.top (pos a.bottom) (pos y.bottom), times_exchange a.top y.top (pos a.bottom) (pos x.bottom), ← minus_times, unsigned_abs-mul, unsigned_abs-mul)

@@ -1,8 +1,9 @@
 -- Sums and largest numbers over the nodes 1 to n, and the node where a ratio is largest.
-use Rattle.std.proofs.Common.{◌≡◌, ℕ, zero, suc, ◌+◌, ◌-◌, ◌*◌, ◌<◌, ◌≤◌, max, Bool, true, false, cond, eqb, [], ◌∷◌, ◌++◌, length, get_or, refl, ap, ◌∙◌, subst, ap₂, mul-le-mul_right, div-lt_iff_lt-mul, mul-le-mul_left, le_of_mul-le-mul_right, arith}
+use Rattle.std.proofs.Common.{◌≡◌, ℕ, zero, suc, ◌+◌, ◌-◌, ◌*◌, ◌<◌, ◌≤◌, max, Bool, true, false, cond, eqb, [], ◌∷◌, ◌++◌, length, get_or, All, fold, map, refl, ap, ◌∙◌, subst, ap₂, mul-le-mul_right, div-lt_iff_lt-mul, mul-le-mul_left, le_of_mul-le-mul_right, arith}
 use native.Mathlib.Decide.{dec_le}
-use Rattle.std.proofs.lemmas.List.{length_push, get_or_append_left, get_or_at}
-use Rattle.balance.specs.declared.range.Range.{Range}
+use Rattle.std.proofs.lemmas.List.{map-append, length_push, get_or_append_left, get_or_at}
+use Rattle.std.proofs.lemmas.List.Elements.{All-push}
+use Rattle.std.proofs.lemmas.List.Sums.{fold-append}
 use Rattle.roast.specs.Certificates.{sum_without, largest, rounded_up, listed}
 
 -- i is one of 1 .. n
@@ -31,9 +32,6 @@ sum_same f g i (suc n) h = ap₂ (λ s x. s + cond (eqb (suc n) i) 0 x) (sum_sam
 
 -- ---- the largest
 
-pub largest_more : (f : ℕ → ℕ) (j : ℕ) → largest f (j + 1) ≡ max (largest f j) (f (j + 1))
-largest_more f j = let e : j + 1 ≡ suc j = omega arith in rw e
-
 pub largest_above : (f : ℕ → ℕ) (n j : ℕ) → In n j → f j ≤ largest f n
 largest_above f zero j h = omega arith
 largest_above f (suc n) j h = by_last (λ i. f i ≤ largest f (suc n)) n j h (λ k. omega (arith, largest_above f n j k)) (omega arith)
@@ -55,19 +53,27 @@ rounded_up_least a d z h k = let l = (div-lt_iff_lt-mul {x = a + (d - 1)} {y = s
 
 -- ---- lists
 
-pub length_listed : (f : ℕ → Range) (n : ℕ) → length (listed f n) ≡ n
+pub length_listed : {X : Type 0} (f : ℕ → X) (n : ℕ) → length (listed f n) ≡ n
 length_listed f zero = refl
 length_listed f (suc n) = omega (arith, length_push (listed f n) (f (suc n)), length_listed f n)
 
-pub get_or_listed : (f : ℕ → Range) (n j : ℕ) (d : Range) → In n j → get_or (listed f n) (j - 1) d ≡ f j
+pub get_or_listed : {X : Type 0} (f : ℕ → X) (n j : ℕ) (d : X) → In n j → get_or (listed f n) (j - 1) d ≡ f j
 get_or_listed f zero j d h = absurd (omega arith)
 get_or_listed f (suc n) j d h = by_last (λ i. get_or (listed f (suc n)) (i - 1) d ≡ f i) n j h
     (λ k. get_or_append_left (listed f n) (f (suc n) ∷ []) d (j - 1) (omega (arith, length_listed f n)) ∙ get_or_listed f n j d k)
     (get_or_at (listed f n) (f (suc n)) [] d (suc n - 1) (omega (arith, length_listed f n)))
 
-pub listed_same : (f g : ℕ → Range) (n : ℕ) → ((i : ℕ) → In n i → f i ≡ g i) → listed f n ≡ listed g n
+pub listed_same : {X : Type 0} (f g : ℕ → X) (n : ℕ) → ((i : ℕ) → In n i → f i ≡ g i) → listed f n ≡ listed g n
 listed_same f g zero h = refl
 listed_same f g (suc n) h = ap₂ (λ xs x. xs ++ x ∷ []) (listed_same f g n (λ i p. h i (omega arith))) (h (suc n) (omega arith))
+
+pub all_listed : {X : Type 0} (P : X → Type 0) (f : ℕ → X) (n : ℕ) → ((i : ℕ) → In n i → P (f i)) → All P (listed f n)
+all_listed P f zero h = λ k d l. absurd (omega arith)
+all_listed P f (suc n) h = All-push P (listed f n) (f (suc n)) (all_listed P f n (λ i p. h i (omega arith))) (h (suc n) (omega arith))
+
+pub largest_listed : {X : Type 0} (h : X → ℕ) (f : ℕ → X) (n : ℕ) → fold max 0 (map h (listed f n)) ≡ largest (λ i. h (f i)) n
+largest_listed h f zero = refl
+largest_listed h f (suc n) = rw (map-append, fold-append, largest_listed h f n) refl
 
 -- ---- ratios, compared by cross multiplication
 

@@ -1,5 +1,5 @@
 -- The test of a certificate, and the first box.
-use Rattle.std.specs.Prelude.{◌≡◌, ℕ, zero, suc, ◌+◌, ◌-◌, ◌*◌, ◌/◌, ◌^◌, ◌≤◌, max, cond, List, [], ◌∷◌, ◌++◌, length, ℤ, pos, ◌-ℤ◌, neg_ℤ, ◌≤ℤ◌, Some, None, Ok, Err, Option, Result, ◌==◌, int_le, int_lt, nat_le, slice_index, slice_index_or, unsigned_abs}
+use Rattle.std.specs.Prelude.{◌≡◌, ℕ, zero, suc, ◌+◌, ◌-◌, ◌*◌, ◌/◌, ◌^◌, ◌≤◌, max, cond, List, [], ◌∷◌, ◌++◌, length, ℤ, pos, ◌-ℤ◌, neg_ℤ, ◌≤ℤ◌, Some, None, Ok, Err, Option, Result, ◌==◌, int_le, int_lt, nat_le, slice_index_or, unsigned_abs}
 use Rattle.balance.specs.declared.range.Range.{Range}
 use Rattle.balance.specs.declared.refusal.Refusal.{Refusal}
 use Rattle.balance.specs.declared.refusal.Refusal.TheVariants.{Certificate, Dominance, Wide}
@@ -61,24 +61,8 @@ pub record LeastBound (m : Meaning) (us : List ℤ) (i bound : ℕ) : Type 0 whe
   pub bounds : (j : ℕ) → IsNode m j → u us i * magnitude (right_side_range m j) ≤ bound * unsigned_abs (v m us j)
   pub least : (z : ℕ) → ((j : ℕ) → IsNode m j → u us i * magnitude (right_side_range m j) ≤ z * unsigned_abs (v m us j)) → bound ≤ z
 
--- a list that holds f 1 .. f n at its front
-abbrev pub Holding : (ℕ → ℕ) → ℕ → List ℕ → Type 0
-Holding f n xs = (j : ℕ) → 1 ≤ j → j ≤ n → slice_index xs (j - 1) ≡ f j
-
--- the v_j, all at least 1 and at most 2^40, and the |b_j|
-abbrev pub Margins : Meaning → List ℤ → List ℕ → Type 0
-Margins m us xs = Holding (λ j. unsigned_abs (v m us j)) m.size xs × ((j : ℕ) → 1 ≤ j → j ≤ m.size → (1 ≤ unsigned_abs (v m us j)) × (unsigned_abs (v m us j) ≤ 2 ^ 40))
-
-abbrev pub Sides : Meaning → List ℕ → Type 0
-Sides m xs = Holding (λ j. magnitude (right_side_range m j)) m.size xs
-
--- the refusal in a result
-abbrev pub refusal_of : {X : Type 0} → Result X Refusal → Option Refusal
-refusal_of (Ok x) = None
-refusal_of (Err e) = Some e
-
 -- f 1 .. f n
-abbrev pub listed : (ℕ → Range) → ℕ → List Range
+abbrev pub listed : {X : Type 0} → (ℕ → X) → ℕ → List X
 listed f zero = []
 listed f (suc n) = listed f n ++ f (suc n) ∷ []
 

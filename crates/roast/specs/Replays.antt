@@ -1,5 +1,5 @@
 -- A list of calls with their answers, as the machine leaves it.
-use Rattle.std.specs.Prelude.{◌≡◌, Bool, true, false, List, [], ◌∷◌, map, ℤ, Some, Ok, Err, Option, Result}
+use Rattle.std.specs.Prelude.{◌≡◌, List, [], ◌∷◌, map, ℤ, Some, Ok, Err, Option, Result}
 use Rattle.balance.specs.declared.refusal.Refusal.{Refusal}
 use Rattle.balance.specs.Meanings.{Meaning}
 use Rattle.roast.specs.declared.call.Answer.{Answer}
@@ -13,7 +13,7 @@ abbrev pub ask : Entry → Ask
 ask e = asked e.call
 
 -- a call and its answer
-abbrev pub shown : Entry → Ask × Option Answer
+abbrev pub shown : Entry → Ask × Option (Result Answer Refusal)
 shown e = (ask e, e.answer)
 
 -- a list of readings has the machine's records once it is answered
@@ -25,17 +25,8 @@ answered (readings rs) o = readings o.records
 answered rest o = rest
 answered (ends_at i) o = ends_at i
 
--- a call that has no records
-abbrev pub plain : Ask → Bool
-plain (row_step_at i) = true
-plain round = true
-plain (reading_at i lower upper) = true
-plain (readings rs) = false
-plain rest = true
-plain (ends_at i) = true
-
 -- each call with the answer that the machine gives it
-abbrev pub replayed : Meaning → Box → List Ask → List (Ask × Option Answer)
+abbrev pub replayed : Meaning → Box → List Ask → List (Ask × Option (Result Answer Refusal))
 replayed m box [] = []
 replayed m box (c ∷ cs) = (answered c (outcome m box c), Some (outcome m box c).answer) ∷ replayed m (outcome m box c).box cs
 

@@ -1,6 +1,7 @@
 -- What holds of every run of calls on a roast that was opened.
-use Rattle.std.specs.Prelude.{◌≡◌, ℕ, Bool, true, cond, List, [], ◌∷◌, ◌++◌, ℤ, ◌==◌, ◌≢◌}
+use Rattle.std.specs.Prelude.{◌≡◌, ℕ, Bool, true, cond, List, [], ◌∷◌, ◌++◌, ℤ, Err, Result, ◌==◌, ◌≢◌}
 use Rattle.balance.specs.declared.range.Range.{Range}
+use Rattle.balance.specs.declared.refusal.Refusal.{Refusal}
 use Rattle.balance.specs.declared.refusal.Refusal.TheVariants.{Conflict}
 use Rattle.balance.specs.Ranges.{range}
 use Rattle.balance.specs.Meanings.{Meaning, IsNode, Same}
@@ -8,7 +9,6 @@ use Rattle.balance.specs.Members.{Member, Point, Solves, SamePoint, component, �
 use Rattle.balance.specs.Rows.{at}
 use Rattle.roast.specs.declared.call.Reading.{Reading}
 use Rattle.roast.specs.declared.call.Answer.{Answer}
-use Rattle.roast.specs.declared.call.Answer.TheVariants.{Refused}
 use Rattle.roast.specs.Certificates.{first_box}
 use Rattle.roast.specs.Narrowing.{Box, at_rest}
 use Rattle.roast.specs.Machine.{Ask, row_step_at, round, reading_at, readings, rest, ends_at, mark, outcome, after}
@@ -63,11 +63,11 @@ Rests m box = at_rest m box ≡ true
 
 -- ---- conflicts
 
-abbrev pub NotInConflict : Answer → Type 0
-NotInConflict a = (j : ℕ) → a ≢ Refused (Conflict j)
+abbrev pub NotInConflict : Result Answer Refusal → Type 0
+NotInConflict a = (j : ℕ) → a ≢ Err (Conflict j)
 
 -- a reading may be in conflict, a row step or a round may not
-abbrev pub Calm : Ask → Answer → Type 0
+abbrev pub Calm : Ask → Result Answer Refusal → Type 0
 Calm (row_step_at i) a = NotInConflict a
 Calm round a = NotInConflict a
 Calm (reading_at i lower upper) a = Unit {0}

@@ -1,22 +1,36 @@
-ghost use Rattle.std.specs.Prelude.{◌≡◌, ℕ, ◌+◌, ◌-◌, ◌^◌, ◌<◌, ◌≤◌, [], ◌∷◌, ◌++◌, length, take, pos, slice_index_or, slice_set};
-ghost use Rattle.balance.specs.Ranges.{only, Between};
+ghost use Rattle.std.specs.Prelude.{◌≡◌, ◌-◌, ◌+◌, ◌^◌, ◌<◌, ◌≤◌, [], ◌∷◌, ◌++◌, length, slice_set};
+ghost use Rattle.balance.specs.Ranges.{Between};
+ghost use Rattle.balance.specs.Rows.{at};
+ghost use Rattle.roast.specs.Narrowing.{AllBetween};
 
 use balance::range::Range;
+use std::marker::Model;
 
-// The ranges of the first `count` nodes, each in order and within ±2^30. Of a fixed size, so that no call can fail for want of memory and
-// a box is saved by a plain copy.
-#[derive(Clone, Copy)]
+// The ranges of at most 32 nodes, node 1 first, each in order and within ±2^30. Of a fixed size with a count beside, by
+// the rule that a roast's box is a plain inner table: a list of fixed room cannot be copied but by a clone that may fail.
+#[derive(Drop)]
 pub struct Bounds {
     count: usize,
     ranges: [Range; 32],
-    ghost few: { count ≤ 32 },
-    ghost whole: { length ranges ≡ 32 },
-    ghost narrow: { (k : ℕ) → Between (2 ^ 30) (slice_index_or ranges k (only (pos 0))) },
 }
 
+// Clauses see the ranges of the nodes that are there.
+impl Model for Bounds {
+    ghost use Rattle.std.specs.Prelude.{List, ◌≡◌, ◌^◌, ◌≤◌, length, take};
+    ghost use Rattle.balance.specs.declared.range.Range.{Range};
+    ghost use Rattle.roast.specs.Narrowing.{AllBetween};
+
+    ghost Value = { List Range };
+
+    ghost view = { λ b. take b.count b.ranges };
+
+    ghost invariant = { λ b. (b.count ≤ 32) × (length b.ranges ≡ 32) × AllBetween (2 ^ 30) b.ranges };
+}
+
+// A node's number is asked for with its two limits, here and in the steps: a type that held them would borrow the bounds for a whole step.
 impl Bounds {
     pub(crate) fn none() -> Bounds
-        ensures { result.count ≡ 0 }
+        ensures { result ≡ [] }
     {
         Bounds {
             count: 0,
@@ -24,43 +38,54 @@ impl Bounds {
         }
     }
 
+    // No derive: a clone may fail by its contract, and a copy would have to give back what the view leaves out.
+    pub(crate) fn copied(&self) -> Bounds
+        ensures { result ≡ self.now }
+    {
+        Bounds {
+            count: self.count,
+            ranges: self.ranges,
+        }
+    }
+
     pub(crate) fn count(&self) -> usize
-        ensures is { result ≡ self.now.count }
-        ensures few { result ≤ 32 }
-        ensures length { result ≡ length (take self.now.count self.now.ranges) }
+        ensures { result ≡ length self.now }
     {
         self.count
     }
 
     pub(crate) fn at(&self, node: usize) -> Range
-        requires { (1 ≤ node) × (node ≤ self.now.count) }
-        ensures is { result ≡ slice_index_or (take self.now.count self.now.ranges) (node - 1) (only (pos 0)) }
+        requires some { 1 ≤ node }
+        requires there { node ≤ length self.now }
+        ensures is { result ≡ at self.now node }
         ensures narrow { Between (2 ^ 30) result }
     {
-        self.ranges[node - 1]
+        self.all()[node - 1]
     }
 
     // All ranges, node 1 first.
     pub(crate) fn all(&self) -> &[Range]
-        ensures is { result.now ≡ take self.now.count self.now.ranges }
-        ensures narrow { (k : ℕ) → Between (2 ^ 30) (slice_index_or result.now k (only (pos 0))) }
+        ensures is { result.now ≡ self.now }
+        ensures narrow { AllBetween (2 ^ 30) self.now }
     {
         &self.ranges[0..self.count]
     }
 
     pub(crate) fn put(&mut self, node: usize, range: Range)
-        requires { (1 ≤ node) × ((node ≤ self.old.count) × (Between (2 ^ 30) range)) }
-        ensures count { self.new.count ≡ self.old.count }
-        ensures is { take self.new.count self.new.ranges ≡ slice_set (take self.old.count self.old.ranges) (node - 1) range }
+        requires some { 1 ≤ node }
+        requires there { node ≤ length self.old }
+        requires narrow { Between (2 ^ 30) range }
+        ensures { self.new ≡ slice_set self.old (node - 1) range }
     {
-        self.ranges[node - 1] = range;
+        let ranges = &mut self.ranges;
+        ranges[node - 1] = range;
     }
 
     // One node more.
     pub(crate) fn push(&mut self, range: Range)
-        requires { (self.old.count < 32) × (Between (2 ^ 30) range) }
-        ensures count { self.new.count ≡ self.old.count + 1 }
-        ensures is { take self.new.count self.new.ranges ≡ take self.old.count self.old.ranges ++ range ∷ [] }
+        requires room { length self.old < 32 }
+        requires narrow { Between (2 ^ 30) range }
+        ensures { self.new ≡ self.old ++ range ∷ [] }
     {
         self.ranges[self.count] = range;
         self.count += 1;

@@ -1,6 +1,12 @@
+ghost use Rattle.std.specs.Prelude.{Some};
+ghost use Rattle.roast.specs.Texts.{reading_text, call_text, answer_text};
+
+use balance::range::Range;
 use balance::refusal::Refusal;
+use std::fmt;
 
 // One reading of a list: a node and a range, and 0 or the number of its refusal once it was taken.
+// A byte, by the rule that the call writes this number into the record in place.
 #[derive(Clone, Copy, PartialEq, Eq, Debug)]
 pub struct Reading {
     pub node: usize,
@@ -10,7 +16,7 @@ pub struct Reading {
 }
 
 // A call on a roast.
-#[derive(Drop)]
+#[derive(PartialEq, Eq, Debug, Drop)]
 pub enum Call {
     RowStep { node: usize },
     Round,
@@ -21,7 +27,7 @@ pub enum Call {
 }
 
 // What a call answers.
-#[derive(Clone, Copy)]
+#[derive(Clone, Copy, PartialEq, Eq, Debug)]
 pub enum Answer {
     // A row step or a reading: whether it changed the node's range.
     Changed(bool),
@@ -32,13 +38,64 @@ pub enum Answer {
     // Whether the box is at rest.
     AtRest(bool),
     // A node's two ends.
-    Ends(i64, i64),
-    Refused(Refusal),
+    Ends((i64, i64)),
 }
 
-// A call with its answer, once it was made.
-#[derive(Drop)]
+// A call with its answer or refusal, once it was made.
+#[derive(PartialEq, Eq, Debug, Drop)]
 pub struct Entry {
     pub call: Call,
-    pub answer: Option<Answer>,
+    pub answer: Option<Result<Answer, Refusal>>,
+}
+
+// A record is shown by what was read.
+impl fmt::Display for Reading {
+    ghost output = { λ r. Some (reading_text r.node r.lower r.upper) };
+
+    fn fmt<W: fmt::Write>(&self, f: &mut fmt::Formatter<W>) -> fmt::Result {
+        let range = Range {
+            lower: self.lower,
+            upper: self.upper,
+        };
+        write!(f, "reading {range} at node {}", self.node)
+    }
+}
+
+impl fmt::Display for Call {
+    ghost output = { λ c. Some (call_text c) };
+
+    fn fmt<W: fmt::Write>(&self, f: &mut fmt::Formatter<W>) -> fmt::Result {
+        match self {
+            Call::RowStep { node } => write!(f, "row step {node}"),
+            Call::Round => f.write_str("round"),
+            Call::Reading { node, lower, upper } => {
+                let record = Reading {
+                    node: *node,
+                    lower: *lower,
+                    upper: *upper,
+                    answer: 0,
+                };
+                record.fmt(f)
+            }
+            Call::Readings { .. } => f.write_str("readings list"),
+            Call::AtRest => f.write_str("at rest"),
+            Call::Ends { node } => write!(f, "ends of node {node}"),
+        }
+    }
+}
+
+impl fmt::Display for Answer {
+    ghost output = { λ a. Some (answer_text a) };
+
+    fn fmt<W: fmt::Write>(&self, f: &mut fmt::Formatter<W>) -> fmt::Result {
+        match self {
+            Answer::Changed(true) => f.write_str("changed"),
+            Answer::Changed(false) => f.write_str("unchanged"),
+            Answer::Changes(count) => write!(f, "{count} changed"),
+            Answer::Done => f.write_str("done"),
+            Answer::AtRest(true) => f.write_str("yes"),
+            Answer::AtRest(false) => f.write_str("no"),
+            Answer::Ends(ends) => Range::from(*ends).fmt(f),
+        }
+    }
 }

@@ -1,11 +1,10 @@
 // Row steps, rounds and readings on the bounds of a roast, each equal to the reference machine's.
-ghost use Rattle.std.specs.Prelude.{◌≡◌, ◌+◌, ◌^◌, ◌<◌, ◌≤◌, true, [], length, IfSome, if◌then◌else◌};
+ghost use Rattle.std.specs.Prelude.{◌≡◌, ◌^◌, ◌≤◌, [], length, IfSome};
 ghost use Rattle.balance.specs.Ranges.{Between};
-ghost use Rattle.balance.specs.Meanings.{is_node};
-ghost use Rattle.roast.specs.Narrowing.{narrowed, take as step, row_step};
-ghost use Rattle.roast.specs.Machine.{outcome, round, reading_outcome, readings_outcome, mark};
-ghost use Rattle.roast.specs.Answers.{step_result, step_box, changed, changes};
-ghost use Rattle.roast.specs.Boxed.{box};
+ghost use Rattle.roast.specs.declared.call.Answer.TheVariants.{Changed, Changes};
+ghost use Rattle.roast.specs.Narrowing.{narrowed, take as step, row_step, rests};
+ghost use Rattle.roast.specs.Machine.{step_outcome, outcome, round, reading_outcome, readings_outcome, mark};
+ghost use Rattle.roast.specs.Answers.{as_answer};
 
 use super::bounds::Bounds;
 use super::call::Reading;
@@ -13,131 +12,108 @@ use super::rounding;
 use balance::range::Range;
 use balance::refusal::Refusal;
 use balance::rows::{coefficient_range, right_side_range, row_sum};
-use balance::system::System;
+use balance::system::{System, check_node};
 
-// What a row leaves of its node's range.
-pub(crate) fn narrowed<S: System>(system: &S, bounds: &Bounds, node: usize) -> Option<Range>
-    requires { (1 ≤ node) × (node ≤ bounds.now.count) }
-    ensures is { result ≡ narrowed (S.meaning system.now) (box bounds.now) node }
-    ensures narrow { IfSome result (Between (2 ^ 30)) }
-{
-    let Some(sum) = row_sum(system, bounds.all(), node, node) else {
-        return None;
-    };
-    let Some(side) = right_side_range(system, node) else {
-        return None;
-    };
-    let Some(diagonal) = coefficient_range(system, node, node) else {
-        return None;
-    };
-    if rounding::holds_zero(diagonal) {
-        return None;
+impl Bounds {
+    // What a row leaves of its node's range.
+    fn narrowed<S: System>(&self, system: &S, node: usize) -> Option<Range>
+        requires some { 1 ≤ node }
+        requires there { node ≤ length self.now }
+        ensures is { result ≡ narrowed (S.meaning system.now) self.now node }
+        ensures narrow { IfSome result (Between (2 ^ 30)) }
+    {
+        let sum = row_sum(system, self.all(), node, node)?;
+        let side = right_side_range(system, node)?;
+        let diagonal = coefficient_range(system, node, node)?;
+        if diagonal.contains(0) {
+            return None;
+        }
+        let numerator = side.checked_sub(sum)?;
+        rounding::shared(self.at(node), rounding::quotient(numerator, diagonal))
     }
-    let numerator = rounding::minus(side, sum);
-    rounding::shared(bounds.at(node), rounding::quotient(numerator, diagonal))
-}
 
-// Gives the node a range, where there is one, and says whether that changed it.
-fn accept(bounds: &mut Bounds, node: usize, range: Option<Range>) -> Result<bool, Refusal>
-    requires at_a_node { (1 ≤ node) × (node ≤ bounds.old.count) }
-    requires narrow { IfSome range (Between (2 ^ 30)) }
-    ensures answers { result ≡ step_result (step (box bounds.old) node range) }
-    ensures leaves { box bounds.new ≡ step_box (box bounds.old) (step (box bounds.old) node range) }
-    ensures count { bounds.new.count ≡ bounds.old.count }
-{
-    let Some(range) = range else {
-        return Err(Refusal::Conflict { place: node });
-    };
-    let changed = !rounding::same_range(bounds.at(node), range);
-    bounds.put(node, range);
-    Ok(changed)
-}
+    // Gives the node a range, where there is one, and says whether that changed it.
+    fn accept(&mut self, node: usize, range: Option<Range>) -> Result<bool, Refusal>
+        requires some { 1 ≤ node }
+        requires there { node ≤ length self.old }
+        requires narrow { IfSome range (Between (2 ^ 30)) }
+        ensures answers { as_answer Changed result ≡ (step_outcome self.old (step self.old node range)).answer }
+        ensures leaves { self.new ≡ (step_outcome self.old (step self.old node range)).box }
+    {
+        let range = range.ok_or(Refusal::Conflict { place: node })?;
+        let changed = self.at(node) != range;
+        self.put(node, range);
+        Ok(changed)
+    }
 
-pub(crate) fn is_node(bounds: &Bounds, node: usize) -> bool
-    ensures is { result ≡ is_node (length (box bounds.now)) node }
-    ensures within { result ≡ true → (1 ≤ node) × (node ≤ bounds.now.count) }
-{
-    1 <= node && node <= bounds.count()
-}
+    // Narrows a node's range by its row, and says whether that changed it.
+    pub(crate) fn step_row<S: System>(&mut self, system: &S, node: usize) -> Result<bool, Refusal>
+        requires some { 1 ≤ node }
+        requires there { node ≤ length self.old }
+        ensures answers { as_answer Changed result ≡ (step_outcome self.old (row_step (S.meaning system.now) self.old node)).answer }
+        ensures leaves { self.new ≡ (step_outcome self.old (row_step (S.meaning system.now) self.old node)).box }
+    {
+        let range = self.narrowed(system, node);
+        self.accept(node, range)
+    }
 
-pub(crate) fn step_row<S: System>(
-    system: &S,
-    bounds: &mut Bounds,
-    node: usize,
-) -> Result<bool, Refusal>
-    requires { (1 ≤ node) × (node ≤ bounds.old.count) }
-    ensures answers { result ≡ step_result (row_step (S.meaning system.now) (box bounds.old) node) }
-    ensures leaves { box bounds.new ≡ step_box (box bounds.old) (row_step (S.meaning system.now) (box bounds.old) node) }
-    ensures count { bounds.new.count ≡ bounds.old.count }
-{
-    let range = narrowed(system, bounds, node);
-    accept(bounds, node, range)
-}
+    // Whether the row step of a node would be accepted and change nothing.
+    pub(crate) fn rests<S: System>(&self, system: &S, node: usize) -> bool
+        requires some { 1 ≤ node }
+        requires there { node ≤ length self.now }
+        ensures { result ≡ rests (row_step (S.meaning system.now) self.now node) }
+    {
+        self.narrowed(system, node) == Some(self.at(node))
+    }
 
-// A row step of each node in order; a conflict undoes them all.
-pub(crate) fn sweep<S: System>(system: &S, bounds: &mut Bounds) -> Result<usize, Refusal>
-    ensures answers { changes result ≡ (outcome (S.meaning system.now) (box bounds.old) round).answer }
-    ensures leaves { box bounds.new ≡ (outcome (S.meaning system.now) (box bounds.old) round).box }
-{
-    let before = *bounds;
-    let mut changed = 0;
-    for i in 0..before.count() {
-        match step_row(system, bounds, i + 1) {
-            Ok(more) => changed = counted(changed, more),
-            Err(refusal) => {
-                *bounds = before;
-                return Err(refusal);
-            }
+    // A row step of each node in order, made on a copy, so that a conflict undoes them all.
+    pub(crate) fn sweep<S: System>(&mut self, system: &S) -> Result<usize, Refusal>
+        ensures answers { as_answer Changes result ≡ (outcome (S.meaning system.now) self.old round).answer }
+        ensures leaves { self.new ≡ (outcome (S.meaning system.now) self.old round).box }
+    {
+        let mut next = self.copied();
+        let mut changes = 0;
+        for node in 1..=self.count() {
+            changes += usize::from(next.step_row(system, node)?);
+        }
+        *self = next;
+        Ok(changes)
+    }
+
+    // Takes a reading of a node, and says whether it changed the node's range.
+    pub(crate) fn read(&mut self, node: usize, range: Range) -> Result<bool, Refusal>
+        ensures answers { as_answer Changed result ≡ (reading_outcome self.old node range.lower range.upper).answer }
+        ensures leaves { self.new ≡ (reading_outcome self.old node range.lower range.upper).box }
+    {
+        check_node(self.count(), node)?;
+        if range.upper < range.lower {
+            return Err(Refusal::Crossed { place: node });
+        }
+        let left = rounding::shared(self.at(node), range);
+        self.accept(node, left)
+    }
+
+    // The records in order as readings, each marked in place.
+    pub(crate) fn read_all(&mut self, list: &mut [Reading])
+        ensures leaves { self.new ≡ (readings_outcome self.old [] list.old).box }
+        ensures records { list.new ≡ (readings_outcome self.old [] list.old).records }
+    {
+        // By index, by the rule that the records are taken in a loop with their index and each answer is written in place.
+        for i in 0..list.len() {
+            let Reading {
+                node,
+                lower,
+                upper,
+                ..
+            } = list[i];
+            list[i].answer = mark(self.read(node, Range { lower, upper }));
         }
     }
-    Ok(changed)
-}
-
-fn counted(count: usize, more: bool) -> usize
-    requires { count < 32 }
-    ensures is { result ≡ (if more then count + 1 else count) }
-    ensures up { result ≤ count + 1 }
-{
-    if more { count + 1 } else { count }
-}
-
-pub(crate) fn read(
-    bounds: &mut Bounds,
-    node: usize,
-    lower: i64,
-    upper: i64,
-) -> Result<bool, Refusal>
-    ensures answers { changed result ≡ (reading_outcome (box bounds.old) node lower upper).answer }
-    ensures leaves { box bounds.new ≡ (reading_outcome (box bounds.old) node lower upper).box }
-    ensures count { bounds.new.count ≡ bounds.old.count }
-{
-    if !is_node(bounds, node) {
-        return Err(Refusal::Node { place: node });
-    }
-    if upper < lower {
-        return Err(Refusal::Crossed { place: node });
-    }
-    let range = rounding::shared(bounds.at(node), Range { lower, upper });
-    accept(bounds, node, range)
 }
 
 // 0, or the number of the refusal.
-fn mark(res: Result<bool, Refusal>) -> u8
-    ensures { result ≡ mark (changed res) }
+fn mark(answer: Result<bool, Refusal>) -> u8
+    ensures { result ≡ mark answer }
 {
-    match res {
-        Ok(_) => 0,
-        Err(refusal) => refusal.number(),
-    }
-}
-
-// The records in order as readings, each marked in place.
-pub(crate) fn read_all(bounds: &mut Bounds, list: &mut [Reading])
-    ensures leaves { box bounds.new ≡ (readings_outcome (box bounds.old) [] list.old).box }
-    ensures records { list.new ≡ (readings_outcome (box bounds.old) [] list.old).records }
-{
-    for i in 0..list.len() {
-        let record = list[i];
-        list[i].answer = mark(read(bounds, record.node, record.lower, record.upper));
-    }
+    answer.map_or_else(|refusal| refusal.number(), |_| 0)
 }

@@ -1,7 +1,9 @@
 pub mod Networks
+pub mod Entries
 pub mod RowScalers
 pub mod Renumberings
 pub mod NetworksLemmas
+pub mod EntriesLemmas
 pub mod Places
 pub mod Sums
 pub mod RenumberingsLemmas

@@ -1,9 +1,9 @@
 -- A network of links between nodes: what its records add to the balance, and which records it takes.
-use Rattle.std.specs.Prelude.{ℕ, ◌+◌, ◌-◌, ◌^◌, Bool, false, cond, List, [], ◌∷◌, length, ℤ, pos, neg_ℤ, Some, None, Option, ◌==◌, int_le, nat_le, slice_index_or}
+use Rattle.std.specs.Prelude.{ℕ, ◌+◌, ◌-◌, ◌^◌, Bool, cond, ◌&&◌, List, [], ◌∷◌, length, pos, Some, None, Option, ◌==◌, int_le, nat_le, slice_index_or}
 use Rattle.balance.specs.declared.range.Range.{Range}
 use Rattle.balance.specs.declared.refusal.Refusal.{Refusal}
 use Rattle.balance.specs.declared.refusal.Refusal.TheVariants.{Size, Node, Crossed, Limit}
-use Rattle.balance.specs.Ranges.{only, Between, plus, minus, times, total}
+use Rattle.balance.specs.Ranges.{range, only, within, limits, Between, plus, minus, times, total}
 use Rattle.balance.specs.Meanings.{Meaning, is_node, limited}
 use Rattle.balance.specs.Places.{first}
 use Rattle.systems.specs.declared.record.Addition.{Addition}
@@ -25,12 +25,9 @@ additions n (Link i j conductance) = adds i i conductance ∷ adds j j conductan
 additions n (Outside i conductance temperature) = adds i i conductance ∷ adds i (n + 1) (times conductance temperature) ∷ []
 additions n (Heat i heat) = adds i (n + 1) heat ∷ []
 
-abbrev pub both : Bool → Bool → Bool
-both s t = cond s t false
-
 -- an amount, where it goes to this place, and nothing elsewhere
 abbrev pub amount_at : ℕ → ℕ → Addition → Range
-amount_at i j a = cond (both (a.row == i) (a.column == j)) a.amount (only (pos 0))
+amount_at i j a = cond (a.row == i && a.column == j) a.amount (only (pos 0))
 
 abbrev pub sum_at : ℕ → ℕ → List Addition → Range
 sum_at i j [] = only (pos 0)
@@ -59,34 +56,44 @@ network n rs = record {
 
 -- ---- which records a network takes
 
+-- between these ends a record takes conductances, outside temperatures and heats
+abbrev pub conductances : Range
+conductances = range (pos 0) (pos (2 ^ 20))
+
+abbrev pub temperatures : Range
+temperatures = limits (2 ^ 30)
+
+abbrev pub heats : Range
+heats = limits (2 ^ 42)
+
 abbrev pub in_order : Range → Bool
 in_order r = int_le r.lower r.upper
 
--- no end of a range in order is outside the two limits
-abbrev pub from_to : ℤ → ℤ → Range → Bool
-from_to least most r = both (int_le least r.lower) (int_le r.upper most)
+-- the nodes that a record names are among 1 to n
+abbrev pub names_nodes : ℕ → Record → Bool
+names_nodes n (Link i j conductance) = is_node n i && is_node n j
+names_nodes n (Outside i conductance temperature) = is_node n i
+names_nodes n (Heat i heat) = is_node n i
 
-abbrev pub conductance_allowed : Range → Bool
-conductance_allowed r = from_to (pos 0) (pos (2 ^ 20)) r
+-- no lower end of a record is above its upper end
+abbrev pub ends_in_order : Record → Bool
+ends_in_order (Link i j conductance) = in_order conductance
+ends_in_order (Outside i conductance temperature) = in_order conductance && in_order temperature
+ends_in_order (Heat i heat) = in_order heat
 
-abbrev pub temperature_allowed : Range → Bool
-temperature_allowed r = from_to (neg_ℤ (pos (2 ^ 30))) (pos (2 ^ 30)) r
+-- no end of a record lies beyond the limits of its quantity
+abbrev pub ends_within : Record → Bool
+ends_within (Link i j conductance) = within conductance conductances
+ends_within (Outside i conductance temperature) = within conductance conductances && within temperature temperatures
+ends_within (Heat i heat) = within heat heats
 
-abbrev pub heat_allowed : Range → Bool
-heat_allowed r = from_to (neg_ℤ (pos (2 ^ 42))) (pos (2 ^ 42)) r
-
--- the first of three that fails refuses record k: its nodes are nodes, its ranges are in order, its ranges are within their limits
-abbrev pub judged : ℕ → Bool → Bool → Bool → Option Refusal
-judged k nodes ordered within = cond nodes (cond ordered (cond within None (Some (Limit 2 k 0))) (Some (Crossed k))) (Some (Node k))
-
+-- the first of these three that fails refuses record k
 abbrev pub record_refusal : ℕ → ℕ → Record → Option Refusal
-record_refusal n k (Link i j conductance) = judged k (both (is_node n i) (is_node n j)) (in_order conductance) (conductance_allowed conductance)
-record_refusal n k (Outside i conductance temperature) = judged k (is_node n i) (both (in_order conductance) (in_order temperature)) (both (conductance_allowed conductance) (temperature_allowed temperature))
-record_refusal n k (Heat i heat) = judged k (is_node n i) (in_order heat) (heat_allowed heat)
+record_refusal n k r = cond (names_nodes n r) (cond (ends_in_order r) (cond (ends_within r) None (Some (Limit 2 k 0))) (Some (Crossed k))) (Some (Node k))
 
 -- 1 to 32 nodes and at most 256 records; then record by record
 abbrev pub network_refusal : ℕ → List Record → Option Refusal
 network_refusal n rs =
-    cond (both (both (nat_le 1 n) (nat_le n 32)) (nat_le (length rs) 256))
+    cond (nat_le 1 n && nat_le n 32 && nat_le (length rs) 256)
     (first (λ k. record_refusal n k (record_at rs k)) (length rs))
     (Some (Size 0))

@@ -1,11 +1,11 @@
 -- A layer that numbers the nodes anew, by a permutation p: node i of the layer is node p(i) below.
-use Rattle.std.specs.Prelude.{◌≡◌, ℕ, ◌-◌, ◌≤◌, Bool, false, cond, not, ◌↔◌, List, length, Some, None, Option, ◌==◌, slice_index}
+use Rattle.std.specs.Prelude.{◌≡◌, ℕ, ◌-◌, ◌≤◌, Bool, cond, ◌&&◌, not, ◌↔◌, List, length, Option, ◌==◌, slice_index}
 use Rattle.balance.specs.declared.refusal.Refusal.{Refusal}
-use Rattle.balance.specs.declared.refusal.Refusal.TheVariants.{Entry}
 use Rattle.balance.specs.Meanings.{Meaning, is_node}
 use Rattle.balance.specs.Members.{Point}
-use Rattle.balance.specs.Places.{first, every}
+use Rattle.balance.specs.Places.{every}
 use Rattle.balance.specs.Points.{Possible}
+use Rattle.systems.specs.Entries.{entries_refusal}
 
 -- ---- what the layer tells
 
@@ -32,12 +32,12 @@ abbrev pub is_new : List ℕ → ℕ → Bool
 is_new ps k = every (λ j. not (entry_at ps j == entry_at ps k)) (k - 1)
 
 -- entry k is one of 1 to n, and new
-abbrev pub entry_refusal : ℕ → List ℕ → ℕ → Option Refusal
-entry_refusal n ps k = cond (cond (is_node n (entry_at ps k)) (is_new ps k) false) None (Some (Entry k))
+abbrev pub entry_allowed : ℕ → List ℕ → ℕ → Bool
+entry_allowed n ps k = is_node n (entry_at ps k) && is_new ps k
 
 -- as many entries as nodes; then entry by entry
 abbrev pub order_refusal : ℕ → List ℕ → Option Refusal
-order_refusal n ps = cond (length ps == n) (first (entry_refusal n ps) n) (Some (Entry 0))
+order_refusal n ps = entries_refusal n (length ps) (entry_allowed n ps)
 
 -- p maps 1 to n onto 1 to n, one to one
 pub record Permutation (n : ℕ) (p : ℕ → ℕ) : Type 0 where

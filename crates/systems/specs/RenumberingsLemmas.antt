@@ -1,22 +1,23 @@
 -- Nodes numbered anew: which lists are permutations, and what a renumbering does to solutions.
-use Rattle.std.specs.Prelude.{◌≡◌, ℕ, zero, suc, ◌+◌, ◌-◌, ◌<◌, ◌≤◌, Bool, true, false, cond, not, ◌≢◌, ◌↔◌, List, length, pos, is_some, Some, None, Option, ◌==◌, nat_eq, slice_index, refl}
+use Rattle.std.specs.Prelude.{◌≡◌, ℕ, zero, suc, ◌+◌, ◌-◌, ◌<◌, ◌≤◌, Bool, true, false, cond, not, ◌≢◌, ◌↔◌, List, [], ◌∷◌, ◌++◌, ◌||◌, ◌&&◌, take, length, pos, None, ◌==◌, nat_eq, slice_index, refl}
+use Rattle.std.specs.List.{list_any}
+use Rattle.std.proofs.lemmas.List.{take_more}
+use Rattle.std.proofs.lemmas.List.Folds.{list_any-append}
 use Rattle.std.proofs.Common.{arith, sym, ap, subst, ◌∙◌}
 use Rattle.std.proofs.Math.Decide.{ℕ_discrete}
 use Rattle.std.proofs.lemmas.Bool.{eq-eqb, ne_eqb, eqb-true}
 use Rattle.std.proofs.lemmas.Bool.Decides.{nat_tests}
 use Rattle.balance.specs.declared.range.Range.{Range}
-use Rattle.balance.specs.declared.refusal.Refusal.{Refusal}
-use Rattle.balance.specs.declared.refusal.Refusal.TheVariants.{Entry}
 use Rattle.balance.specs.Ranges.{only, times, meets}
 use Rattle.balance.specs.Meanings.{Place, told, refused, Meaning, IsNode, Lawful, Told, EveryPlaceAnswers, range_at, is_node, coefficient_answer, right_side_answer}
 use Rattle.balance.specs.Members.{Fraction, Member, Point, PickedAt}
-use Rattle.balance.specs.Places.{first, every}
+use Rattle.balance.specs.Places.{every}
 use Rattle.balance.specs.Points.{row, fits, Possible}
-use Rattle.balance.proofs.Points.{solution_fits, fits_solution, every_passes, passes_every, every_more, every_stops}
-use Rattle.balance.proofs.Searches.{first_more, first_stops, none_of, is_a_node, coefficient_at, right_side_at}
-use Rattle.systems.specs.Renumberings.{entry_at, node_below, renumbered, is_new, entry_refusal, order_refusal, Permutation, IsPermutation, Renumbers, RenumbersSolutions}
+use Rattle.balance.proofs.Points.{solution_fits, fits_solution, every_passes, passes_every}
+use Rattle.balance.proofs.Searches.{is_a_node, coefficient_at, right_side_at}
+use Rattle.systems.specs.Renumberings.{entry_at, node_below, renumbered, is_new, entry_allowed, order_refusal, Permutation, IsPermutation, Renumbers, RenumbersSolutions}
 use Rattle.systems.specs.Permutations.{onto, total_permuted}
-use Rattle.systems.specs.Places.{none_refused}
+use Rattle.systems.specs.EntriesLemmas.{taken, all_allowed}
 use Rattle.systems.specs.Sums.{total_same}
 
 -- ---- entries that are new
@@ -24,58 +25,37 @@ use Rattle.systems.specs.Sums.{total_same}
 entry_index : (ps : List ℕ) (k : ℕ) → entry_at ps (k + 1) ≡ slice_index ps k
 entry_index ps k = let e : k + 1 - 1 ≡ k = omega arith in ap (λ i. slice_index ps i) e
 
-module _ (ps : List ℕ) (k : ℕ) where
-  -- entry j is another than entry k + 1
-  abbrev pub differs : ℕ → Bool
-  differs j = not (entry_at ps j == entry_at ps (k + 1))
+-- the entries before it, as the code looks them up
+before_are : (ps : List ℕ) (p k : ℕ) → k ≤ length ps → every (λ j. not (entry_at ps j == p)) k ≡ not (list_any (λ q. q == p) (take k ps))
+before_are ps p zero l = refl
+before_are ps p (suc k) l =
+    let e : suc k ≡ k + 1 = omega arith in
+    let t : take (suc k) ps ≡ take k ps ++ slice_index ps k ∷ [] = ap (λ i. take i ps) e ∙ take_more ps k 0 (omega arith) in
+    let a : entry_at ps (suc k) ≡ slice_index ps k = ap (entry_at ps) e ∙ entry_index ps k in
+    let more : list_any (λ q. q == p) (take (suc k) ps) ≡ (list_any (λ q. q == p) (take k ps) || (slice_index ps k == p || false)) = ap (list_any (λ q. q == p)) t ∙ list_any-append (λ q. q == p) (take k ps) (slice_index ps k ∷ []) in
+    rw (before_are ps p k (omega arith), a, more) (neither (list_any (λ q. q == p) (take k ps)) (slice_index ps k == p))
+  where
+    neither : (s t : Bool) → cond (not s) (not t) false ≡ not (s || (t || false))
+    neither true t = refl
+    neither false true = refl
+    neither false false = refl
 
-  new_is : is_new ps (k + 1) ≡ every differs k
-  new_is = let e : k + 1 - 1 ≡ k = omega arith in ap (every differs) e
-
-  entries_at : (j : ℕ) (t : Bool) → (slice_index ps j == slice_index ps k) ≡ t → differs (j + 1) ≡ not t
-  entries_at j t h = (λ i. not (entry_index ps j i == entry_index ps k i)) ∙ ap not h
-
-  pub new_more : (j : ℕ) → every differs j ≡ true → slice_index ps j ≢ slice_index ps k → every differs (j + 1) ≡ true
-  new_more j h e = every_more differs j h (entries_at j false (ne_eqb _ _ e))
-
-  pub new_stops : (j : ℕ) → slice_index ps j ≡ slice_index ps k → j < k → is_new ps (k + 1) ≡ false
-  new_stops j e l = new_is ∙ every_stops differs j k (entries_at j true (eq-eqb _ _ e)) l
-
-  pub new_all : (j : ℕ) → every differs j ≡ true → j ≡ k → is_new ps (k + 1) ≡ true
-  new_all j h e = new_is ∙ ap (every differs) (sym e) ∙ h
-
--- ---- the first entry that is refused
-
-module _ (n : ℕ) (ps : List ℕ) (k : ℕ) where
-  entry_test : (s t : Bool) → is_node n (slice_index ps k) ≡ s → is_new ps (k + 1) ≡ t → entry_refusal n ps (k + 1) ≡ cond (cond s t false) None (Some (Entry (k + 1)))
-  entry_test s t a b =
-      let e : is_node n (entry_at ps (k + 1)) ≡ s = ap (is_node n) (entry_index ps k) ∙ a in
-      rw (e, b)
-
-  pub entries_more : first (entry_refusal n ps) k ≡ None → is_node n (slice_index ps k) ≡ true → is_new ps (k + 1) ≡ true → first (entry_refusal n ps) (k + 1) ≡ None
-  entries_more h a b = first_more (entry_refusal n ps) k h (entry_test true true a b)
-
-  module _ (count : length ps ≡ n) (so_far : first (entry_refusal n ps) k ≡ None) (more : k < length ps) where
-    stops : entry_refusal n ps (k + 1) ≡ Some (Entry (k + 1)) → order_refusal n ps ≡ Some (Entry (k + 1))
-    stops h = let t : nat_eq (length ps) n ≡ true = eq-eqb (length ps) n count in rw t (first_stops (entry_refusal n ps) (Entry (k + 1)) k n so_far h (omega arith))
-
-    pub stops_outside : is_node n (slice_index ps k) ≡ false → order_refusal n ps ≡ Some (Entry (k + 1))
-    stops_outside a = stops (entry_test false (is_new ps (k + 1)) a refl)
-
-    pub stops_at_repeat : is_node n (slice_index ps k) ≡ true → is_new ps (k + 1) ≡ false → order_refusal n ps ≡ Some (Entry (k + 1))
-    stops_at_repeat a b = stops (entry_test true false a b)
+pub entry_allowed_is : (n : ℕ) (ps : List ℕ) (k : ℕ) → k ≤ length ps → entry_allowed n ps (k + 1) ≡ (is_node n (slice_index ps k) && not (list_any (λ q. q == slice_index ps k) (take k ps)))
+entry_allowed_is n ps k l =
+    let e : k + 1 - 1 ≡ k = omega arith in
+    let a : is_new ps (k + 1) ≡ not (list_any (λ q. q == slice_index ps k) (take k ps)) = (λ i. every (λ j. not (entry_at ps j == entry_index ps k i)) (e i)) ∙ before_are ps (slice_index ps k) k l in
+    λ i. is_node n (entry_index ps k i) && a i
 
 -- ---- the lists that are taken are the permutations
 
 module _ (n : ℕ) (ps : List ℕ) where
-  passed : (k : ℕ) (s t : Bool) → cond (cond s t false) None (Some (Entry k)) ≡ None → (s ≡ true) × (t ≡ true)
-  passed k true true h = (refl, refl)
-  passed k true false h = let z : ◌≡◌ {A = ℕ} 0 1 = cc in absurd (omega arith)
-  passed k false t h = let z : ◌≡◌ {A = ℕ} 0 1 = cc in absurd (omega arith)
-
-  module _ (none : first (entry_refusal n ps) n ≡ None) where
+  module _ (allowed : (k : ℕ) → 1 ≤ k → k ≤ n → entry_allowed n ps k ≡ true) where
     entry_passes : (k : ℕ) → 1 ≤ k → k ≤ n → (is_node n (entry_at ps k) ≡ true) × (is_new ps k ≡ true)
-    entry_passes k a b = passed k (is_node n (entry_at ps k)) (is_new ps k) (none_of (entry_refusal n ps) n none k a b)
+    entry_passes k a b = passed (is_node n (entry_at ps k)) (is_new ps k) (allowed k a b)
+      where
+        passed : (s t : Bool) → (s && t) ≡ true → (s ≡ true) × (t ≡ true)
+        passed true t h = (refl, h)
+        passed false t h = cc
 
     entries_within : (i : ℕ) → 1 ≤ i → i ≤ n → (1 ≤ entry_at ps i) × (entry_at ps i ≤ n)
     entries_within i a b = let h = (entry_passes i a b).0 in (grind (arith, nat_tests), grind (arith, nat_tests))
@@ -91,56 +71,50 @@ module _ (n : ℕ) (ps : List ℕ) where
         by (no f) = absurd (omega (arith, f, λ (l : i < j). earlier i j a l d e, λ (l : j < i). earlier j i c l b (sym e)))
 
   pub permutes : order_refusal n ps ≡ None → IsPermutation n ps
-  permutes h = by (length ps == n) refl h
-    where
-      by : (t : Bool) → (length ps == n) ≡ t → cond t (first (entry_refusal n ps) n) (Some (Entry 0)) ≡ None → IsPermutation n ps
-      by true e k = (eqb-true (length ps) n e, record { within = entries_within k; one_to_one = entries_apart k; onto = onto n (entry_at ps) (entries_within k) (entries_apart k) })
-      by false e k = let z : ◌≡◌ {A = ℕ} 0 1 = cc in absurd (omega arith)
-
-  all_none : (f : ℕ → Option Refusal) (k : ℕ) → ((i : ℕ) → 1 ≤ i → i ≤ k → f i ≡ None) → first f k ≡ None
-  all_none f zero h = refl
-  all_none f (suc k) h = rw (all_none f k (λ i a b. h i a (omega arith)), h (suc k) (omega arith) (omega arith))
+  permutes h =
+      let t = taken n (length ps) (entry_allowed n ps) h in
+      (t.0, record { within = entries_within t.1; one_to_one = entries_apart t.1; onto = onto n (entry_at ps) (entries_within t.1) (entries_apart t.1) })
 
   pub permutation_taken : IsPermutation n ps → order_refusal n ps ≡ None
-  permutation_taken (count, p) =
-      let t : nat_eq (length ps) n ≡ true = eq-eqb (length ps) n count in
-      rw t (all_none (entry_refusal n ps) n (λ k a b. both k (is_a_node n (entry_at ps k) (p.within k a b).0 (p.within k a b).1) (passes_every (λ j. not (entry_at ps j == entry_at ps k)) (k - 1) (λ j c d. ap not (ne_eqb (entry_at ps j) (entry_at ps k) (λ e. apart j k c d (p.one_to_one j k c (omega arith) a b e)))))))
+  permutation_taken (count, p) = all_allowed n (length ps) (entry_allowed n ps) count (λ j l. both (j + 1) (entry_is_node (j + 1) (omega arith) (omega arith)) (entry_is_new (j + 1) (omega arith) (omega arith)))
     where
-      both : (k : ℕ) → is_node n (entry_at ps k) ≡ true → is_new ps k ≡ true → entry_refusal n ps k ≡ None
-      both k e f = rw (e, f)
+      entry_is_node : (k : ℕ) → 1 ≤ k → k ≤ n → is_node n (entry_at ps k) ≡ true
+      entry_is_node k a b = is_a_node n (entry_at ps k) (p.within k a b).0 (p.within k a b).1
 
-      apart : (j k : ℕ) → 1 ≤ j → j ≤ k - 1 → j ≢ k
+      apart : (j k : ℕ) → j ≤ k - 1 → 1 ≤ j → j ≢ k
       apart j k a b e = omega arith
+
+      entry_is_new : (k : ℕ) → 1 ≤ k → k ≤ n → is_new ps k ≡ true
+      entry_is_new k a b = passes_every (λ j. not (entry_at ps j == entry_at ps k)) (k - 1) (λ j c d. ap not (ne_eqb (entry_at ps j) (entry_at ps k) (λ e. apart j k d c (p.one_to_one j k c (omega arith) a b e))))
+
+      both : (k : ℕ) → is_node n (entry_at ps k) ≡ true → is_new ps k ≡ true → entry_allowed n ps k ≡ true
+      both k e f = rw (e, f)
 
 -- ---- the nodes below, and the law of systems
 
--- a list that was taken, over a system of any size
-pub below_within : (ps : List ℕ) (k n i : ℕ) → is_some (order_refusal k ps) ≡ false → 1 ≤ i → i ≤ n → (1 ≤ node_below ps n i) × (node_below ps n i ≤ n)
-below_within ps k n i taken a b = by (length ps == n) refl
-  where
-    p : IsPermutation k ps
-    p = permutes k ps (none_refused (order_refusal k ps) taken)
+node_below_is : (ps : List ℕ) (n i : ℕ) → length ps ≡ n → node_below ps n i ≡ entry_at ps i
+node_below_is ps n i count = let t : nat_eq (length ps) n ≡ true = eq-eqb (length ps) n count in rw t
 
-    by : (t : Bool) → (length ps == n) ≡ t → (1 ≤ cond t (entry_at ps i) i) × (cond t (entry_at ps i) i ≤ n)
-    by true e = let c = eqb-true (length ps) n e in let w = p.1.within i a (omega (arith, p.0)) in (w.0, omega (arith, w.1, p.0))
-    by false e = (a, b)
+module _ (ps : List ℕ) (m : Meaning) (taken : order_refusal m.size ps ≡ None) where
+  below_is : (i : ℕ) → node_below ps m.size i ≡ entry_at ps i
+  below_is i = node_below_is ps m.size i (permutes m.size ps taken).0
 
-pub renumbered_lawful : (ps : List ℕ) (m : Meaning) → Lawful m → ((i : ℕ) → IsNode m i → IsNode m (node_below ps m.size i)) → Lawful (renumbered ps m)
-renumbered_lawful ps m lawful nodes = record {
-  some = lawful.some;
-  few = lawful.few;
-  coefficients = λ i j h k. lawful.coefficients _ _ (nodes i h) (nodes j k);
-  right_sides = λ i h. lawful.right_sides _ (nodes i h);
-}
+  below_is_node : (i : ℕ) → IsNode m i → IsNode m (node_below ps m.size i)
+  below_is_node i h = rw (below_is i) ((permutes m.size ps taken).1.within i h.0 h.1)
 
--- ---- answers
+  pub coefficient_passed : (i j : ℕ) → IsNode m i → IsNode m j → coefficient_answer m (entry_at ps i) (entry_at ps j) ≡ coefficient_answer (renumbered ps m) i j
+  coefficient_passed i j h k = (λ d. coefficient_answer m (sym (below_is i) d) (sym (below_is j) d)) ∙ coefficient_at m _ _ (below_is_node i h) (below_is_node j k) ∙ sym (coefficient_at (renumbered ps m) i j h k)
 
-module _ (ps : List ℕ) (m : Meaning) (nodes : (i : ℕ) → IsNode m i → IsNode m (node_below ps m.size i)) where
-  pub coefficient_passed : (i j : ℕ) → IsNode m i → IsNode m j → coefficient_answer m (node_below ps m.size i) (node_below ps m.size j) ≡ coefficient_answer (renumbered ps m) i j
-  coefficient_passed i j h k = coefficient_at m _ _ (nodes i h) (nodes j k) ∙ sym (coefficient_at (renumbered ps m) i j h k)
+  pub right_side_passed : (i : ℕ) → IsNode m i → right_side_answer m (entry_at ps i) ≡ right_side_answer (renumbered ps m) i
+  right_side_passed i h = ap (right_side_answer m) (sym (below_is i)) ∙ right_side_at m _ (below_is_node i h) ∙ sym (right_side_at (renumbered ps m) i h)
 
-  pub right_side_passed : (i : ℕ) → IsNode m i → right_side_answer m (node_below ps m.size i) ≡ right_side_answer (renumbered ps m) i
-  right_side_passed i h = right_side_at m _ (nodes i h) ∙ sym (right_side_at (renumbered ps m) i h)
+  pub renumbered_lawful : Lawful m → Lawful (renumbered ps m)
+  renumbered_lawful lawful = record {
+    some = lawful.some;
+    few = lawful.few;
+    coefficients = λ i j h k. lawful.coefficients _ _ (below_is_node i h) (below_is_node j k);
+    right_sides = λ i h. lawful.right_sides _ (below_is_node i h);
+  }
 
 -- ---- the node of the layer above a node
 
@@ -180,14 +154,14 @@ module _ (m : Meaning) (lawful : Lawful m) (ps : List ℕ) (count : length ps �
   abbrev layer : Meaning
   layer = renumbered ps m
 
-  below_is : (i : ℕ) → node_below ps m.size i ≡ p i
-  below_is i = let t : nat_eq (length ps) m.size ≡ true = eq-eqb (length ps) m.size count in rw t
+  below_p : (i : ℕ) → node_below ps m.size i ≡ p i
+  below_p i = node_below_is ps m.size i count
 
   coefficient_is : (i j : ℕ) → layer.coefficient i j ≡ m.coefficient (p i) (p j)
-  coefficient_is i j = λ k. m.coefficient (below_is i k) (below_is j k)
+  coefficient_is i j = λ k. m.coefficient (below_p i k) (below_p j k)
 
   right_side_is : (i : ℕ) → layer.right_side i ≡ m.right_side (p i)
-  right_side_is i = ap m.right_side (below_is i)
+  right_side_is i = ap m.right_side (below_p i)
 
   node_of : (i : ℕ) → IsNode m i → IsNode m (p i)
   node_of i h = permutation.within i h.0 h.1
@@ -224,7 +198,7 @@ module _ (m : Meaning) (lawful : Lawful m) (ps : List ℕ) (count : length ps �
 
     pub solutions_renumbered : Possible m x ↔ Possible layer y
     solutions_renumbered = (
-      λ s. fits_solution layer (renumbered_lawful ps m lawful (λ i h. subst (IsNode m) (sym (below_is i)) (node_of i h))) (answers_above (member_answers m s.0)) y (λ i h. fits_is i h ∙ solution_fits m x s (p i) (node_of i h)),
+      λ s. fits_solution layer (renumbered_lawful ps m (permutation_taken m.size ps (count, permutation)) lawful) (answers_above (member_answers m s.0)) y (λ i h. fits_is i h ∙ solution_fits m x s (p i) (node_of i h)),
       λ s. fits_solution m lawful (answers_below (member_answers layer s.0)) x (λ i (h, h').
           let t = permutation.onto i h h' in
           ap (fits m x.numerator (pos x.over)) (sym t.3) ∙ sym (fits_is t.0 (t.1, t.2)) ∙ solution_fits layer y s t.0 (t.1, t.2)),

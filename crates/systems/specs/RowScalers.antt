@@ -1,13 +1,12 @@
 -- A layer that multiplies each row, its right side too, by a whole factor other than 0.
-use Rattle.std.specs.Prelude.{ℕ, ◌+◌, ◌-◌, ◌^◌, Bool, false, cond, ◌↔◌, List, length, ℤ, pos, ◌*ℤ◌, Some, None, Option, ◌==◌, int_lt, nat_le, slice_index_or, unsigned_abs}
+use Rattle.std.specs.Prelude.{ℕ, ◌+◌, ◌-◌, ◌^◌, Bool, cond, ◌&&◌, ◌↔◌, List, length, ℤ, pos, ◌*ℤ◌, Some, None, Option, ◌==◌, int_lt, nat_le, slice_index_or, unsigned_abs}
 use Rattle.balance.specs.declared.range.Range.{Range}
 use Rattle.balance.specs.declared.refusal.Refusal.{Refusal}
-use Rattle.balance.specs.declared.refusal.Refusal.TheVariants.{Entry}
 use Rattle.balance.specs.Ranges.{range}
 use Rattle.balance.specs.Meanings.{Place, told, refused, Meaning, EveryPlaceAnswers, limited}
 use Rattle.balance.specs.Members.{Point}
-use Rattle.balance.specs.Places.{first}
 use Rattle.balance.specs.Points.{Possible}
+use Rattle.systems.specs.Entries.{entries_refusal}
 
 -- ---- what the layer tells
 
@@ -40,14 +39,11 @@ row_scaled fs m = record {
 
 -- other than 0, and within ±1,024
 abbrev pub factor_allowed : ℤ → Bool
-factor_allowed f = cond (nat_le 1 (unsigned_abs f)) (nat_le (unsigned_abs f) 1024) false
-
-abbrev pub factor_refusal : List ℤ → ℕ → Option Refusal
-factor_refusal fs k = cond (factor_allowed (factor_at fs k)) None (Some (Entry k))
+factor_allowed f = nat_le 1 (unsigned_abs f) && nat_le (unsigned_abs f) 1024
 
 -- as many factors as nodes; then factor by factor
 abbrev pub factors_refusal : ℕ → List ℤ → Option Refusal
-factors_refusal n fs = cond (length fs == n) (first (factor_refusal fs) n) (Some (Entry 0))
+factors_refusal n fs = entries_refusal n (length fs) (λ k. factor_allowed (factor_at fs k))
 
 -- ---- what it keeps
 

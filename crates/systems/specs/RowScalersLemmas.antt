@@ -1,41 +1,27 @@
 -- Rows that are multiplied by factors: which factors are taken, and that the solutions stay.
-use Rattle.std.specs.Prelude.{◌≡◌, ℕ, ◌+◌, ◌-◌, ◌^◌, ◌<◌, ◌≤◌, Bool, true, false, cond, ◌↔◌, List, length, get_or, ℤ, pos, ◌*ℤ◌, neg_ℤ, is_some, Some, None, Ok, Option, FitsSigned, ◌==◌, int_le, nat_eq, slice_index_or, unsigned_abs, refl}
-use Rattle.std.proofs.Common.{arith, sym, ap, ◌∙◌, to_z, of_z}
+use Rattle.std.specs.Prelude.{◌≡◌, ℕ, ◌+◌, ◌-◌, ◌^◌, ◌≤◌, Bool, true, false, cond, ◌↔◌, List, length, ℤ, pos, ◌*ℤ◌, neg_ℤ, Some, None, Ok, Option, FitsSigned, int_le, nat_eq, unsigned_abs, refl}
+use Rattle.std.proofs.Common.{slice_index_or, arith, sym, ap, ◌∙◌}
 use Rattle.std.proofs.lemmas.Int.{ints}
 use Rattle.std.specs.Int.{w64}
-use Rattle.std.proofs.lemmas.Bool.{eq-eqb, eqb-true}
+use Rattle.std.proofs.lemmas.Bool.{eq-eqb}
 use Rattle.std.proofs.lemmas.Bool.Decides.{nat_tests}
 use Rattle.balance.specs.declared.range.Range.{Range}
-use Rattle.balance.specs.declared.refusal.Refusal.{Refusal}
-use Rattle.balance.specs.declared.refusal.Refusal.TheVariants.{Entry}
-use Rattle.balance.specs.Ranges.{range, only, Between, times, meets}
-use Rattle.balance.specs.Meanings.{Place, told, refused, Meaning, IsNode, Within, Lawful, Told, EveryPlaceAnswers, range_at, answer, limited}
+use Rattle.balance.specs.Ranges.{range, only, times, meets}
+use Rattle.balance.specs.Meanings.{Place, told, refused, Meaning, IsNode, Within, Lawful, Told, EveryPlaceAnswers, range_at, is_node, answer, coefficient_answer, right_side_answer, limited}
 use Rattle.balance.specs.Members.{Point}
-use Rattle.balance.specs.Places.{first}
 use Rattle.balance.specs.Points.{row, fits, Possible}
 use Rattle.balance.proofs.Integers.{product_within}
 use Rattle.balance.proofs.Points.{solution_fits, fits_solution}
-use Rattle.balance.proofs.RowSums.{held}
-use Rattle.balance.proofs.Searches.{first_more, first_stops, none_of}
 use Rattle.balance.specs.TablesLemmas.{limited_within}
-use Rattle.systems.specs.RowScalers.{scaled, scaled_place, factor_at, row_factor, factor_allowed, factor_refusal, factors_refusal, row_scaled, KeepsSolutions}
+use Rattle.systems.specs.RowScalers.{scaled, scaled_place, factor_at, row_factor, factor_allowed, factors_refusal, row_scaled, KeepsSolutions}
 use Rattle.systems.specs.Scaling.{scaled_ordered, scaled_total, scaled_times, scaled_meets}
-use Rattle.systems.specs.Places.{behind, told_behind, none_refused}
+use Rattle.systems.specs.Places.{behind, told_behind}
+use Rattle.systems.specs.EntriesLemmas.{taken}
 
--- ---- the first factor that is refused
+-- ---- the factors that are taken
 
-factor_index : (fs : List ℤ) (k : ℕ) → factor_at fs (k + 1) ≡ slice_index_or fs k (pos 0)
-factor_index fs k = let e : k + 1 - 1 ≡ k = omega arith in ap (λ i. get_or fs i (pos 0)) e
-
-module _ (fs : List ℤ) (k : ℕ) (f : ℤ) (is : f ≡ slice_index_or fs k (pos 0)) where
-  test_at : (t : Bool) → factor_allowed f ≡ t → factor_refusal fs (k + 1) ≡ cond t None (Some (Entry (k + 1)))
-  test_at t h = let e : factor_allowed (factor_at fs (k + 1)) ≡ t = ap factor_allowed (factor_index fs k ∙ sym is) ∙ h in rw e
-
-  pub factors_more : first (factor_refusal fs) k ≡ None → factor_allowed f ≡ true → first (factor_refusal fs) (k + 1) ≡ None
-  factors_more h e = first_more (factor_refusal fs) k h (test_at true e)
-
-  pub factors_stop : (n : ℕ) → length fs ≡ n → first (factor_refusal fs) k ≡ None → factor_allowed f ≡ false → k < length fs → factors_refusal n fs ≡ Some (Entry (k + 1))
-  factors_stop n c h e l = let t : nat_eq (length fs) n ≡ true = eq-eqb (length fs) n c in rw t (first_stops (factor_refusal fs) (Entry (k + 1)) k n h (test_at false e) (omega arith))
+pub factor_index : (fs : List ℤ) (k : ℕ) → factor_at fs (k + 1) ≡ slice_index_or fs k (pos 0)
+factor_index fs k = let e : k + 1 - 1 ≡ k = omega arith in ap (λ i. slice_index_or fs i (pos 0)) e
 
 -- as many factors as nodes, each other than 0 and within ±1,024
 pub record Factors (n : ℕ) (fs : List ℤ) : Type 0 where
@@ -43,26 +29,20 @@ pub record Factors (n : ℕ) (fs : List ℤ) : Type 0 where
   pub some : (k : ℕ) → 1 ≤ k → k ≤ n → 1 ≤ unsigned_abs (factor_at fs k)
   pub small : (k : ℕ) → 1 ≤ k → k ≤ n → unsigned_abs (factor_at fs k) ≤ 1024
 
+allowed : (f : ℤ) → factor_allowed f ≡ true → (1 ≤ unsigned_abs f) × (unsigned_abs f ≤ 1024)
+allowed f h = (grind (arith, nat_tests), grind (arith, nat_tests))
+
 pub factors : (n : ℕ) (fs : List ℤ) → factors_refusal n fs ≡ None → Factors n fs
-factors n fs h = by (length fs == n) refl h
-  where
-    allowed : (f : ℤ) (e : Refusal) (t : Bool) → factor_allowed f ≡ t → cond t None (Some e) ≡ None → (1 ≤ unsigned_abs f) × (unsigned_abs f ≤ 1024)
-    allowed f e true k l = (grind (arith, nat_tests), grind (arith, nat_tests))
-    allowed f e false k l = let z : ◌≡◌ {A = ℕ} 0 1 = cc in absurd (omega arith)
-
-    by : (t : Bool) → (length fs == n) ≡ t → cond t (first (factor_refusal fs) n) (Some (Entry 0)) ≡ None → Factors n fs
-    by true e k = record {
-      count = eqb-true (length fs) n e;
-      some = λ i p q. (allowed (factor_at fs i) (Entry i) _ refl (none_of (factor_refusal fs) n k i p q)).0;
-      small = λ i p q. (allowed (factor_at fs i) (Entry i) _ refl (none_of (factor_refusal fs) n k i p q)).1;
+factors n fs h =
+    let t = taken n (length fs) (λ k. factor_allowed (factor_at fs k)) h in
+    record {
+      count = t.0;
+      some = λ k a b. (allowed (factor_at fs k) (t.1 k a b)).0;
+      small = λ k a b. (allowed (factor_at fs k) (t.1 k a b)).1;
     }
-    by false e k = let z : ◌≡◌ {A = ℕ} 0 1 = cc in absurd (omega arith)
 
-pub factors_kept : (n : ℕ) (fs : List ℤ) → is_some (factors_refusal n fs) ≡ false → Factors n fs
-factors_kept n fs h = factors n fs (none_refused _ h)
-
-pub factor_there : (n : ℕ) (fs : List ℤ) (i : ℕ) (f : ℤ) → length fs ≡ n → f ≡ factor_at fs i → row_factor fs n i ≡ Some f
-factor_there n fs i f c e = let t : nat_eq (length fs) n ≡ true = eq-eqb (length fs) n c in rw t (ap (λ (z : ℤ). Some z) (sym e))
+row_factor_is : (n : ℕ) (fs : List ℤ) (i : ℕ) → length fs ≡ n → row_factor fs n i ≡ Some (factor_at fs i)
+row_factor_is n fs i c = let t : nat_eq (length fs) n ≡ true = eq-eqb (length fs) n c in rw t
 
 -- ---- products
 
@@ -71,18 +51,16 @@ product_fits x f h k = let b = product_within x f (2 ^ 42) 1024 h k in omega (ar
 
 -- ---- answers
 
--- ends and factor as the code holds them
-pub scaled_held : (limit : ℕ) (l u f : ℤ) → limit ≤ 2 ^ 62 → Between limit (range l u) → unsigned_abs f ≤ 1024 → scaled (to_z w64 (of_z w64 f)) (range (to_z w64 (of_z w64 l)) (to_z w64 (of_z w64 u))) ≡ scaled f (range l u)
-scaled_held limit l u f h b k =
-    let e : to_z w64 (of_z w64 f) ≡ f = omega (arith, ints) in
-    let d = held limit l u h b in
-    λ i. scaled (e i) (d i)
+-- what the layer makes of an answer from below
+scaled_behind : (limit i j row column : ℕ) (s t : Bool) (p : Place) (o : Option ℤ) (f : ℤ) (ends : ℤ × ℤ) → Ok ends ≡ behind s t i j p → o ≡ Some f → answer (limited limit 3 row column (scaled f (range ends.0 ends.1))) ≡ behind s t i j (scaled_place limit row column o p)
+scaled_behind limit i j row column s t p o f ends h e = let b = told_behind s t i j p ends.0 ends.1 h in rw (b.0, b.1, b.2, e)
 
-pub scaled_narrow : (limit : ℕ) (l u f : ℤ) → limit ≤ 2 ^ 42 → Between limit (range l u) → unsigned_abs f ≤ 1024 → Between (2 ^ 42) (range (to_z w64 (of_z w64 l)) (to_z w64 (of_z w64 u))) × (unsigned_abs (to_z w64 (of_z w64 f)) ≤ 1024)
-scaled_narrow limit l u f h b k = ((omega (arith, ints), omega (arith, ints), omega (arith, ints)), omega (arith, ints))
+module _ (m : Meaning) (fs : List ℤ) (count : length fs ≡ m.size) (ends : ℤ × ℤ) where
+  pub scaled_coefficient : (i j : ℕ) → Ok ends ≡ coefficient_answer m i j → answer (limited (2 ^ 20) 3 i j (scaled (factor_at fs i) (range ends.0 ends.1))) ≡ coefficient_answer (row_scaled fs m) i j
+  scaled_coefficient i j h = scaled_behind (2 ^ 20) i j i j (is_node m.size i) (is_node m.size j) (m.coefficient i j) (row_factor fs m.size i) (factor_at fs i) ends h (row_factor_is m.size fs i count)
 
-pub scaled_behind : (limit row column i j : ℕ) (s t : Bool) (p : Place) (o : Option ℤ) (l u f : ℤ) (r : Range) → Ok (l, u) ≡ behind s t i j p → Some f ≡ o → r ≡ scaled f (range l u) → answer (limited limit 3 row column r) ≡ behind s t i j (scaled_place limit row column o p)
-scaled_behind limit row column i j s t p o l u f r h e d = let b = told_behind s t i j p l u h in rw (b.0, b.1, b.2, sym e, d)
+  pub scaled_right_side : (i : ℕ) → Ok ends ≡ right_side_answer m i → answer (limited (2 ^ 42) 3 i (m.size + 1) (scaled (factor_at fs i) (range ends.0 ends.1))) ≡ right_side_answer (row_scaled fs m) i
+  scaled_right_side i h = scaled_behind (2 ^ 42) i i i (m.size + 1) (is_node m.size i) true (m.right_side i) (row_factor fs m.size i) (factor_at fs i) ends h (row_factor_is m.size fs i count)
 
 -- ---- the law of systems
 
@@ -117,7 +95,7 @@ module _ (m : Meaning) (lawful : Lawful m) (fs : List ℤ) (ok : Factors m.size 
   layer = row_scaled fs m
 
   told_at : (limit row column i : ℕ) (p : Place) → IsNode m i → Told (scaled_place limit row column (row_factor fs m.size i) p) → Told p × (range_at (scaled_place limit row column (row_factor fs m.size i) p) ≡ scaled (factor_at fs i) (range_at p))
-  told_at limit row column i p h = let e = factor_there m.size fs i (factor_at fs i) ok.count refl in rw e (scaled_told limit row column (factor_at fs i) p)
+  told_at limit row column i p h = let e = row_factor_is m.size fs i ok.count in rw e (scaled_told limit row column (factor_at fs i) p)
 
   coefficient_told : (i j : ℕ) → IsNode m i → IsNode m j → Told (m.coefficient i j) × (range_at (layer.coefficient i j) ≡ scaled (factor_at fs i) (range_at (m.coefficient i j)))
   coefficient_told i j h k = told_at (2 ^ 20) i j i (m.coefficient i j) h (answers.coefficients i j h k)

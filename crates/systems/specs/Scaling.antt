@@ -2,6 +2,7 @@
 use Rattle.std.specs.Prelude.{◌≡◌, ℕ, zero, suc, ◌≤◌, Bool, true, false, cond, ℤ, pos, negsuc, ◌+ℤ◌, ◌*ℤ◌, ◌≤ℤ◌, int_le, int_lt, unsigned_abs, refl}
 use Rattle.std.proofs.Common.{arith, mul-le-mul_right, sym, ap, ◌∙◌}
 use borrow.Author.Differences.{ints, le_out}
+use Rattle.std.specs.Cmp.{both_ways}
 use Rattle.std.specs.Int.{int_min, int_max}
 use Rattle.std.proofs.lemmas.Int.{clamps}
 use Rattle.balance.specs.declared.range.Range.{Range}
@@ -10,13 +11,10 @@ use Rattle.balance.proofs.Integers.{times_swap, sum_times, le_times, le_cancel}
 use Rattle.balance.proofs.Ranges.{times_only}
 use Rattle.systems.specs.RowScalers.{scaled}
 
--- ---- a factor that is not negative, and one that is
+-- ---- a factor that is not negative
 
 straight : (n : ℕ) (r : Range) → scaled (pos n) r ≡ range (r.lower *ℤ pos n) (r.upper *ℤ pos n)
 straight n r = let e : int_lt (pos n) (pos 0) ≡ false = grind (arith, ints) in rw e
-
-exchanged : (n : ℕ) (r : Range) → scaled (negsuc n) r ≡ range (r.upper *ℤ negsuc n) (r.lower *ℤ negsuc n)
-exchanged n r = refl
 
 -- ---- order
 
@@ -100,13 +98,7 @@ scaled_times (negsuc n) r x =
 -- ---- numbers in common
 
 same_test : (x y x' y' : ℤ) → (x ≤ℤ y → x' ≤ℤ y') → (x' ≤ℤ y' → x ≤ℤ y) → int_le x' y' ≡ int_le x y
-same_test x y x' y' up down = by (int_le x' y') (int_le x y) refl refl
-  where
-    by : (s t : Bool) → int_le x' y' ≡ s → int_le x y ≡ t → s ≡ t
-    by true true d e = refl
-    by true false d e = let h = down (grind (arith, ints)) in absurd (grind (arith, ints))
-    by false true d e = let h = up (grind (arith, ints)) in absurd (grind (arith, ints))
-    by false false d e = refl
+same_test x y x' y' up down = both_ways _ _ (λ e. let h = down (grind (arith, ints)) in grind (arith, ints)) (λ e. let h = up (grind (arith, ints)) in grind (arith, ints))
 
 either_way : (s t : Bool) → cond s t false ≡ cond t s false
 either_way true true = refl

@@ -1,57 +1,28 @@
-ghost use Rattle.std.specs.Prelude.{◌≡◌, ◌≤◌, false, length, is_some, Some, None, Ok, Err};
+ghost use Rattle.std.specs.Prelude.{◌≡◌, ◌≤◌, true, length, Some, None, Ok, Err};
+ghost use Rattle.balance.specs.Meanings.{answer, placed};
 ghost use Rattle.balance.specs.Places.{unless_refused};
-ghost use Rattle.systems.specs.Networks.{in_order, conductance_allowed, temperature_allowed, heat_allowed, judged, record_refusal, network_refusal, adds, additions, amount_at, sum_at, Small, network_sum, network};
+ghost use Rattle.systems.specs.Networks.{ends_in_order, ends_within, record_refusal, network_refusal, additions, sum_at, Small, network_sum, network};
 ghost use Rattle.systems.specs.NetworksLemmas.{accepted, network_lawful};
 
 use super::record::{Addition, Record};
 use balance::range::Range;
 use balance::refusal::{Refusal, Returned};
-use balance::system::{System, is_node, limited_coefficient, limited_right_side};
+use balance::system::{COEFFICIENTS, RIGHT_SIDES, System, check_node, limited};
 
+// The network's part number, which refusals of its records name too.
 const NETWORK_PART: usize = 2;
 
-// Conductances lie in 0 to 2^20, outside temperatures within ±2^30, heats within ±2^42.
-const CONDUCTANCE_LIMIT: i64 = 1_048_576;
-
-const TEMPERATURE_LIMIT: i64 = 1_073_741_824;
-
-const HEAT_LIMIT: i64 = 4_398_046_511_104;
-
-fn in_order(r: Range) -> bool
-    ensures { result ≡ in_order r }
+// A wrong node comes before crossed ends, and these before an end beyond its limits.
+fn check_record(size: usize, number: usize, record: &Record) -> Result<(), Refusal>
+    ensures { result ≡ unless_refused (record_refusal size number «record».now) (Ok tt) }
 {
-    r.lower <= r.upper
-}
-
-fn conductance_allowed(r: Range) -> bool
-    ensures { result ≡ conductance_allowed r }
-{
-    0 <= r.lower && r.upper <= CONDUCTANCE_LIMIT
-}
-
-fn temperature_allowed(r: Range) -> bool
-    ensures { result ≡ temperature_allowed r }
-{
-    -TEMPERATURE_LIMIT <= r.lower && r.upper <= TEMPERATURE_LIMIT
-}
-
-fn heat_allowed(r: Range) -> bool
-    ensures { result ≡ heat_allowed r }
-{
-    -HEAT_LIMIT <= r.lower && r.upper <= HEAT_LIMIT
-}
-
-// The first of three that fails refuses a record, by its number.
-fn judged(number: usize, nodes: bool, ordered: bool, within: bool) -> Result<(), Refusal>
-    ensures { result ≡ unless_refused (judged number nodes ordered within) (Ok tt) }
-{
-    if !nodes {
+    if !record.names_nodes(size) {
         return Err(Refusal::Node { place: number });
     }
-    if !ordered {
+    if !record.is_in_order() {
         return Err(Refusal::Crossed { place: number });
     }
-    if !within {
+    if !record.is_within_limits() {
         return Err(Refusal::Limit {
             part: NETWORK_PART,
             row: number,
@@ -61,87 +32,37 @@ fn judged(number: usize, nodes: bool, ordered: bool, within: bool) -> Result<(),
     Ok(())
 }
 
-fn check_record(size: usize, number: usize, record: &Record) -> Result<(), Refusal>
-    ensures { result ≡ unless_refused (record_refusal size number «record».now) (Ok tt) }
-{
-    match *record {
-        Record::Link {
-            first,
-            second,
-            conductance,
-        } => judged(
-            number,
-            is_node(size, first) & is_node(size, second),
-            in_order(conductance),
-            conductance_allowed(conductance),
-        ),
-        Record::Outside {
-            node,
-            conductance,
-            temperature,
-        } => judged(
-            number,
-            is_node(size, node),
-            in_order(conductance) & in_order(temperature),
-            conductance_allowed(conductance) & temperature_allowed(temperature),
-        ),
-        Record::Heat { node, heat } => judged(
-            number,
-            is_node(size, node),
-            in_order(heat),
-            heat_allowed(heat),
-        ),
-    }
-}
-
 // Refuses a wrong size or count, then the first record that the network does not take.
 fn check_records(size: usize, records: &[Record]) -> Result<(), Refusal>
     ensures { result ≡ unless_refused (network_refusal size records.now) (Ok tt) }
 {
-    if size < 1 || size > 32 || records.len() > 256 {
+    if !(1..=32).contains(&size) || records.len() > 256 {
         return Err(Refusal::Size { place: 0 });
     }
-    for k in 0..records.len() {
-        check_record(size, k + 1, &records[k])?;
+    for (k, record) in records.iter().enumerate() {
+        check_record(size, k + 1, record)?;
     }
     Ok(())
 }
 
-fn adds(row: usize, column: usize, amount: Range) -> Addition
-    ensures { result ≡ adds row column amount }
-{
-    Addition {
-        row,
-        column,
-        amount,
-    }
-}
-
-// An amount, where it goes to this place, and nothing elsewhere.
-fn amount_at(row: usize, column: usize, addition: Addition) -> Range
-    ensures { result ≡ amount_at row column addition }
-{
-    if addition.row == row && addition.column == column {
-        addition.amount
-    } else {
-        Range::ZERO
-    }
-}
-
-fn sum_of(row: usize, column: usize, additions: &[Addition]) -> Option<Range>
-    requires { (Small additions.now) × (length additions.now ≤ 4) }
-    ensures { result ≡ Some (sum_at row column additions.now) }
+// What terms add up to at a place.
+fn sum_of(row: usize, column: usize, terms: &[Addition]) -> Option<Range>
+    requires small { Small terms.now }
+    requires few { length terms.now ≤ 4 }
+    ensures { result ≡ Some (sum_at row column terms.now) }
 {
     let mut sum = Range::ZERO;
-    for k in 0..additions.len() {
-        sum = sum.checked_add(amount_at(row, column, additions[k]))?;
+    for addition in terms {
+        sum = sum.checked_add(addition.amount_at(row, column))?;
     }
     Some(sum)
 }
 
 // What a record adds at a place.
 fn added(size: usize, record: &Record, row: usize, column: usize) -> Option<Range>
-    requires { (record_refusal size 0 «record».now ≡ None) × (size ≤ 32) }
+    requires in_order { ends_in_order «record».now ≡ true }
+    requires within_limits { ends_within «record».now ≡ true }
+    requires few_nodes { size ≤ 32 }
     ensures { result ≡ Some (sum_at row column (additions size «record».now)) }
 {
     match *record {
@@ -155,10 +76,10 @@ fn added(size: usize, record: &Record, row: usize, column: usize) -> Option<Rang
                 row,
                 column,
                 &[
-                    adds(first, first, conductance),
-                    adds(second, second, conductance),
-                    adds(first, second, negated),
-                    adds(second, first, negated),
+                    Addition::new(first, first, conductance),
+                    Addition::new(second, second, conductance),
+                    Addition::new(first, second, negated),
+                    Addition::new(second, first, negated),
                 ],
             )
         }
@@ -171,10 +92,15 @@ fn added(size: usize, record: &Record, row: usize, column: usize) -> Option<Rang
             sum_of(
                 row,
                 column,
-                &[adds(node, node, conductance), adds(node, size + 1, product)],
+                &[
+                    Addition::new(node, node, conductance),
+                    Addition::new(node, size + 1, product),
+                ],
             )
         }
-        Record::Heat { node, heat } => sum_of(row, column, &[adds(node, size + 1, heat)]),
+        Record::Heat { node, heat } => {
+            sum_of(row, column, &[Addition::new(node, size + 1, heat)])
+        },
     }
 }
 
@@ -183,22 +109,23 @@ fn added(size: usize, record: &Record, row: usize, column: usize) -> Option<Rang
 pub struct Network {
     size: usize,
     records: Vec<Record>,
-    ghost taken: { is_some (network_refusal size records.items) ≡ false },
+    ghost taken: { network_refusal size records.items ≡ None },
 }
 
 impl Network {
-    // The first record that is not allowed is refused by its number, and the records come back.
+    // The first record that is not allowed is refused by its number, and the records come back. (The makings of systems hand back other values:
+    // one for all would take a closure for each arm.)
     pub fn new(size: usize, records: Vec<Record>) -> Result<Network, Returned<Vec<Record>>>
         ensures made_exactly_when_every_record_is_taken { elim result [ Ok t ↦ network_refusal size records.items ≡ None | Err e ↦ network_refusal size records.items ≡ Some e.refusal ] }
         ensures holds_the_records { elim result [ Ok t ↦ (t.size ≡ size) × (t.records ≡ records) | Err e ↦ e.value ≡ records ] }
     {
-        if let Err(refusal) = check_records(size, &records) {
-            return Err(Returned {
+        match check_records(size, &records) {
+            Ok(()) => Ok(Network { size, records }),
+            Err(refusal) => Err(Returned {
                 refusal,
                 value: records,
-            });
+            }),
         }
-        Ok(Network { size, records })
     }
 
     // What all records add at a place; column n + 1 is the right side.
@@ -206,10 +133,18 @@ impl Network {
         ensures { result ≡ Some (network_sum self.now.size self.now.records.items row column) }
     {
         let mut sum = Range::ZERO;
-        for k in 0..self.records.len() {
-            sum = sum.checked_add(added(self.size, &self.records[k], row, column)?)?;
+        for record in &self.records {
+            sum = sum.checked_add(added(self.size, record, row, column)?)?;
         }
         Some(sum)
+    }
+
+    // The sum at a place as an answer, or the refusal of the place.
+    fn answer(&self, limits: Range, row: usize, column: usize) -> Result<(i64, i64), Refusal>
+        ensures { result ≡ answer (placed limits 2 row column (network_sum self.now.size self.now.records.items row column)) }
+    {
+        let sum = self.sum_at(row, column).unwrap_or_default();
+        limited(sum, limits, NETWORK_PART, row, column)
     }
 }
 
@@ -225,34 +160,13 @@ impl System for Network {
     }
 
     fn coefficient(&self, row: usize, column: usize) -> Result<(i64, i64), Refusal> {
-        if !is_node(self.size, row) {
-            return Err(Refusal::Node { place: row });
-        }
-        if !is_node(self.size, column) {
-            return Err(Refusal::Node { place: column });
-        }
-        match self.sum_at(row, column) {
-            Some(sum) => limited_coefficient(sum, NETWORK_PART, row, column),
-            None => Err(Refusal::Limit {
-                part: NETWORK_PART,
-                row,
-                column,
-            }),
-        }
+        check_node(self.size, row)?;
+        check_node(self.size, column)?;
+        self.answer(COEFFICIENTS, row, column)
     }
 
     fn right_side(&self, row: usize) -> Result<(i64, i64), Refusal> {
-        if !is_node(self.size, row) {
-            return Err(Refusal::Node { place: row });
-        }
-        let column = self.size + 1;
-        match self.sum_at(row, column) {
-            Some(sum) => limited_right_side(sum, NETWORK_PART, row, column),
-            None => Err(Refusal::Limit {
-                part: NETWORK_PART,
-                row,
-                column,
-            }),
-        }
+        check_node(self.size, row)?;
+        self.answer(RIGHT_SIDES, row, self.size + 1)
     }
 }

@@ -1,6 +1,34 @@
-use balance::range::Range;
+ghost use Rattle.std.specs.Prelude.{◌≡◌};
+ghost use Rattle.systems.specs.Networks.{names_nodes, in_order, ends_in_order, ends_within, adds, amount_at};
 
-// One record of a network. Conductances are in mW/K, temperatures in millidegrees Celsius, heats in µW.
+use balance::range::Range;
+use balance::system::is_node;
+
+// Conductances lie in 0 to 2^20.
+const CONDUCTANCES: Range = Range {
+    lower: 0,
+    upper: 1_048_576,
+};
+
+// Outside temperatures lie within ±2^30.
+const TEMPERATURES: Range = Range {
+    lower: -1_073_741_824,
+    upper: 1_073_741_824,
+};
+
+// Heats lie within ±2^42.
+const HEATS: Range = Range {
+    lower: -4_398_046_511_104,
+    upper: 4_398_046_511_104,
+};
+
+fn in_order(range: Range) -> bool
+    ensures { result ≡ in_order range }
+{
+    range.lower <= range.upper
+}
+
+// One record of a network, of a closed list of sorts. Conductances are in mW/K, temperatures in millidegrees Celsius, heats in µW.
 #[derive(Clone, Copy, PartialEq, Eq, Debug)]
 pub enum Record {
     // heat flows between two nodes, by the difference of their temperatures
@@ -22,10 +50,75 @@ pub enum Record {
     },
 }
 
+impl Record {
+    // Whether the nodes that it names are among 1 to n.
+    pub(crate) fn names_nodes(&self, size: usize) -> bool
+        ensures { result ≡ names_nodes size self.now }
+    {
+        match *self {
+            Record::Link { first, second, .. } => is_node(size, first) && is_node(size, second),
+            Record::Outside { node, .. } | Record::Heat { node, .. } => is_node(size, node),
+        }
+    }
+
+    // Whether no lower end is above its upper end.
+    pub(crate) fn is_in_order(&self) -> bool
+        ensures { result ≡ ends_in_order self.now }
+    {
+        match *self {
+            Record::Link { conductance, .. } => in_order(conductance),
+            Record::Outside {
+                conductance,
+                temperature,
+                ..
+            } => in_order(conductance) && in_order(temperature),
+            Record::Heat { heat, .. } => in_order(heat),
+        }
+    }
+
+    // Whether no end lies beyond the limits of its quantity.
+    pub(crate) fn is_within_limits(&self) -> bool
+        ensures { result ≡ ends_within self.now }
+    {
+        match *self {
+            Record::Link { conductance, .. } => conductance.is_within(CONDUCTANCES),
+            Record::Outside {
+                conductance,
+                temperature,
+                ..
+            } => conductance.is_within(CONDUCTANCES) && temperature.is_within(TEMPERATURES),
+            Record::Heat { heat, .. } => heat.is_within(HEATS),
+        }
+    }
+}
+
 // A range that a record adds at one place; column n + 1 is the right side.
 #[derive(Clone, Copy)]
 pub(crate) struct Addition {
     pub(crate) row: usize,
     pub(crate) column: usize,
     pub(crate) amount: Range,
+}
+
+impl Addition {
+    pub(crate) fn new(row: usize, column: usize, amount: Range) -> Addition
+        ensures { result ≡ adds row column amount }
+    {
+        Addition {
+            row,
+            column,
+            amount,
+        }
+    }
+
+    // The amount, where it goes to this place, and nothing elsewhere.
+    pub(crate) fn amount_at(self, row: usize, column: usize) -> Range
+        ensures { result ≡ amount_at row column self }
+    {
+        if self.row == row && self.column == column {
+            self.amount
+        } else {
+            Range::ZERO
+        }
+    }
 }

@@ -1,42 +1,32 @@
-ghost use Rattle.std.specs.Prelude.{◌≡◌, ◌+◌, ◌<◌, ◌≤◌, false, not, length, is_some, Some, None, Ok, Err, vec_len};
+ghost use Rattle.std.specs.Prelude.{◌≡◌, ◌==◌, ◌&&◌, not, Some, None, Ok, Err};
+ghost use Rattle.std.specs.List.{list_any};
+ghost use Rattle.balance.specs.Meanings.{IsNode, is_node};
 ghost use Rattle.balance.specs.Places.{unless_refused};
-ghost use Rattle.systems.specs.Renumberings.{is_new, node_below, renumbered, order_refusal, IsPermutation, RenumbersSolutions};
-ghost use Rattle.systems.specs.RenumberingsLemmas.{below_within, renumbered_lawful};
+ghost use Rattle.systems.specs.Renumberings.{entry_at, renumbered, order_refusal, IsPermutation, RenumbersSolutions};
+ghost use Rattle.systems.specs.RenumberingsLemmas.{renumbered_lawful};
 
+use super::entries::check_entries;
 use balance::refusal::{Refusal, Returned};
-use balance::system::{System, is_node};
+use balance::system::{System, check_node, is_node};
 
+// The layer's part number, a constant of the module as a generic `impl` does not show the value of `Self::PART` to the checker.
 const RENUMBERING_PART: usize = 4;
 
-// Whether an entry is none of the entries before it.
-fn is_new(order: &[usize], k: usize) -> bool
-    requires { k < length order.now }
-    ensures { result ≡ is_new order.now (k + 1) }
+// Whether an entry is a node, and none of the entries before it.
+fn entry_allowed(size: usize, before: &[usize], entry: usize) -> bool
+    ensures { result ≡ (is_node size entry && not (list_any (λ p. p == entry) before.now)) }
 {
-    for j in 0..k {
-        if order[j] == order[k] {
-            return false;
-        }
-    }
-    true
+    is_node(size, entry) && !before.contains(&entry)
 }
 
-// Refuses another count than the system's size, then the first entry that is no node or repeats an earlier one.
 fn check_order(size: usize, order: &[usize]) -> Result<(), Refusal>
     ensures { result ≡ unless_refused (order_refusal size order.now) (Ok tt) }
 {
-    if order.len() != size {
-        return Err(Refusal::Entry { place: 0 });
-    }
-    for k in 0..order.len() {
-        if !is_node(size, order[k]) {
-            return Err(Refusal::Entry { place: k + 1 });
-        }
-        if !is_new(order, k) {
-            return Err(Refusal::Entry { place: k + 1 });
-        }
-    }
-    Ok(())
+    check_entries(
+        size,
+        order.len(),
+        |k| entry_allowed(size, &order[..k], order[k]),
+    )
 }
 
 // A layer over any system: node i is node p(i) below, for a permutation p of the nodes.
@@ -44,7 +34,7 @@ fn check_order(size: usize, order: &[usize]) -> Result<(), Refusal>
 pub struct Renumbering<S: System> {
     system: S,
     order: Vec<usize>,
-    ghost taken: { is_some (order_refusal (vec_len order) order.items) ≡ false },
+    ghost taken: { order_refusal (S.meaning system).size order.items ≡ None },
 }
 
 impl<S: System> Renumbering<S> {
@@ -55,25 +45,21 @@ impl<S: System> Renumbering<S> {
         ensures holds_the_system_and_the_order { elim result [ Ok l ↦ (l.system ≡ system) × (l.order ≡ order) | Err e ↦ e.value ≡ (system, order) ] }
         ensures renumbers_the_solutions { elim result [ Ok l ↦ RenumbersSolutions order.items (S.meaning system) | Err e ↦ Unit {0} ] }
     {
-        if let Err(refusal) = check_order(system.size(), &order) {
-            return Err(Returned {
+        match check_order(system.size(), &order) {
+            Ok(()) => Ok(Renumbering { system, order }),
+            Err(refusal) => Err(Returned {
                 refusal,
                 value: (system, order),
-            });
+            }),
         }
-        Ok(Renumbering { system, order })
     }
 
-    // The node below; above a system of another size than the layer was made for, the node itself.
+    // The node below.
     fn below(&self, node: usize) -> usize
-        requires { (1 ≤ node) × (node ≤ (S.meaning self.now.system).size) }
-        ensures { result ≡ node_below self.now.order.items (S.meaning self.now.system).size node }
+        requires is_a_node { IsNode (S.meaning self.now.system) node }
+        ensures { result ≡ entry_at self.now.order.items node }
     {
-        if self.order.len() == self.system.size() {
-            self.order[node - 1]
-        } else {
-            node
-        }
+        self.order[node - 1]
     }
 }
 
@@ -82,9 +68,7 @@ impl<S: System> System for Renumbering<S> {
 
     ghost meaning = { λ l. renumbered l.order.items (S.System.meaning l.system) };
 
-    ghost lawful = { λ s.
-        let m = S.System.meaning s.system in
-        renumbered_lawful s.order.items m (S.System.lawful s.system) (λ i h. below_within s.order.items (vec_len s.order) m.size i s.taken h.0 h.1) };
+    ghost lawful = { λ s. renumbered_lawful s.order.items (S.System.meaning s.system) s.taken (S.System.lawful s.system) };
 
     fn size(&self) -> usize {
         self.system.size()
@@ -92,19 +76,13 @@ impl<S: System> System for Renumbering<S> {
 
     fn coefficient(&self, row: usize, column: usize) -> Result<(i64, i64), Refusal> {
         let size = self.system.size();
-        if !is_node(size, row) {
-            return Err(Refusal::Node { place: row });
-        }
-        if !is_node(size, column) {
-            return Err(Refusal::Node { place: column });
-        }
+        check_node(size, row)?;
+        check_node(size, column)?;
         self.system.coefficient(self.below(row), self.below(column))
     }
 
     fn right_side(&self, row: usize) -> Result<(i64, i64), Refusal> {
-        if !is_node(self.system.size(), row) {
-            return Err(Refusal::Node { place: row });
-        }
+        check_node(self.system.size(), row)?;
         self.system.right_side(self.below(row))
     }
 }

@@ -1,41 +1,34 @@
-ghost use Rattle.std.specs.Prelude.{◌≡◌, ◌^◌, ◌≤◌, false, ◌*ℤ◌, is_some, IfSome, Some, None, Ok, Err, vec_len, unsigned_abs};
+ghost use Rattle.std.specs.Prelude.{◌≡◌, ◌^◌, ◌≤◌, ◌*ℤ◌, Some, None, Ok, Err, unsigned_abs};
 ghost use Rattle.balance.specs.Ranges.{Between};
+ghost use Rattle.balance.specs.Meanings.{IsNode};
 ghost use Rattle.balance.specs.Places.{unless_refused};
-ghost use Rattle.systems.specs.RowScalers.{scaled, row_factor, row_scaled, factor_allowed, factors_refusal, KeepsSolutions};
+ghost use Rattle.systems.specs.RowScalers.{scaled, factor_at, row_scaled, factor_allowed, factors_refusal, KeepsSolutions};
 ghost use Rattle.systems.specs.RowScalersLemmas.{scaled_lawful};
 
+use super::entries::check_entries;
 use balance::range::Range;
 use balance::refusal::{Refusal, Returned};
-use balance::system::{System, limited_coefficient, limited_right_side};
+use balance::system::{COEFFICIENTS, RIGHT_SIDES, System, limited};
 
+// The layer's part number, a constant of the module as a generic `impl` does not show the value of `Self::PART` to the checker.
 const ROW_SCALER_PART: usize = 3;
 
-const FACTOR_LIMIT: u64 = 1024;
-
+// Other than 0, and within ±1,024.
 fn factor_allowed(factor: i64) -> bool
     ensures { result ≡ factor_allowed factor }
 {
-    let size = factor.unsigned_abs();
-    1 <= size && size <= FACTOR_LIMIT
+    (1..=1024).contains(&factor.unsigned_abs())
 }
 
-// Refuses another count than the system's size, then the first factor that is not allowed.
 fn check_factors(size: usize, factors: &[i64]) -> Result<(), Refusal>
     ensures { result ≡ unless_refused (factors_refusal size factors.now) (Ok tt) }
 {
-    if factors.len() != size {
-        return Err(Refusal::Entry { place: 0 });
-    }
-    for k in 0..factors.len() {
-        if !factor_allowed(factors[k]) {
-            return Err(Refusal::Entry { place: k + 1 });
-        }
-    }
-    Ok(())
+    check_entries(size, factors.len(), |k| factor_allowed(factors[k]))
 }
 
 fn product(end: i64, factor: i64) -> i64
-    requires { (unsigned_abs end ≤ 2 ^ 42) × (unsigned_abs factor ≤ 1024) }
+    requires end_keeps_the_limit { unsigned_abs end ≤ 2 ^ 42 }
+    requires factor_keeps_the_limit { unsigned_abs factor ≤ 1024 }
     ensures { result ≡ end *ℤ factor }
 {
     end * factor
@@ -43,7 +36,8 @@ fn product(end: i64, factor: i64) -> i64
 
 // A range times a factor; a negative one exchanges the ends.
 fn scaled(range: Range, factor: i64) -> Range
-    requires { (Between (2 ^ 42) range) × (unsigned_abs factor ≤ 1024) }
+    requires range_keeps_the_limit { Between (2 ^ 42) range }
+    requires factor_keeps_the_limit { unsigned_abs factor ≤ 1024 }
     ensures { result ≡ scaled factor range }
 {
     let by_lower = product(range.lower, factor);
@@ -66,7 +60,7 @@ fn scaled(range: Range, factor: i64) -> Range
 pub struct RowScaler<S: System> {
     system: S,
     factors: Vec<i64>,
-    ghost taken: { is_some (factors_refusal (vec_len factors) factors.items) ≡ false },
+    ghost taken: { factors_refusal (S.meaning system).size factors.items ≡ None },
 }
 
 impl<S: System> RowScaler<S> {
@@ -76,26 +70,21 @@ impl<S: System> RowScaler<S> {
         ensures holds_the_system_and_the_factors { elim result [ Ok l ↦ (l.system ≡ system) × (l.factors ≡ factors) | Err e ↦ e.value ≡ (system, factors) ] }
         ensures keeps_the_solutions { elim result [ Ok l ↦ KeepsSolutions (S.meaning system) (row_scaled factors.items (S.meaning system)) | Err e ↦ Unit {0} ] }
     {
-        if let Err(refusal) = check_factors(system.size(), &factors) {
-            return Err(Returned {
+        match check_factors(system.size(), &factors) {
+            Ok(()) => Ok(RowScaler { system, factors }),
+            Err(refusal) => Err(Returned {
                 refusal,
                 value: (system, factors),
-            });
+            }),
         }
-        Ok(RowScaler { system, factors })
     }
 
-    // The factor of a row, above a system of the size that the layer was made for.
-    fn factor(&self, row: usize) -> Option<i64>
-        requires { (1 ≤ row) × (row ≤ (S.meaning self.now.system).size) }
-        ensures is { result ≡ row_factor self.now.factors.items (S.meaning self.now.system).size row }
-        ensures small { IfSome result (λ f. unsigned_abs f ≤ 1024) }
+    fn factor(&self, row: usize) -> i64
+        requires row_is_a_node { IsNode (S.meaning self.now.system) row }
+        ensures is { result ≡ factor_at self.now.factors.items row }
+        ensures keeps_the_limit { unsigned_abs result ≤ 1024 }
     {
-        if self.factors.len() == self.system.size() {
-            Some(self.factors[row - 1])
-        } else {
-            None
-        }
+        self.factors[row - 1]
     }
 }
 
@@ -110,30 +99,27 @@ impl<S: System> System for RowScaler<S> {
         self.system.size()
     }
 
+    // The two questions stay apart: they ask below by other parameters and keep other limits.
     fn coefficient(&self, row: usize, column: usize) -> Result<(i64, i64), Refusal> {
-        let (lower, upper) = self.system.coefficient(row, column)?;
-        match self.factor(row) {
-            Some(factor) => limited_coefficient(
-                scaled(Range { lower, upper }, factor),
-                ROW_SCALER_PART,
-                row,
-                column,
-            ),
-            None => Ok((lower, upper)),
-        }
+        let range = Range::from(self.system.coefficient(row, column)?);
+        limited(
+            scaled(range, self.factor(row)),
+            COEFFICIENTS,
+            ROW_SCALER_PART,
+            row,
+            column,
+        )
     }
 
     fn right_side(&self, row: usize) -> Result<(i64, i64), Refusal> {
-        let (lower, upper) = self.system.right_side(row)?;
+        let range = Range::from(self.system.right_side(row)?);
         let column = self.system.size() + 1;
-        match self.factor(row) {
-            Some(factor) => limited_right_side(
-                scaled(Range { lower, upper }, factor),
-                ROW_SCALER_PART,
-                row,
-                column,
-            ),
-            None => Ok((lower, upper)),
-        }
+        limited(
+            scaled(range, self.factor(row)),
+            RIGHT_SIDES,
+            ROW_SCALER_PART,
+            row,
+            column,
+        )
     }
 }

@@ -1,51 +1,57 @@
-use Rattle.std.proofs.Common.{◌≡◌, ◌+◌, Some, None, refl, ap, ◌∙◌, arith}
-use Rattle.balance.specs.Places.{first, refusal_at, row_refusal}
-use Rattle.balance.proofs.Searches.{first_more, first_stops, column_answers, column_refuses, side_answers, side_refuses, stops_at_column, side_reached, outcome}
+use Rattle.std.proofs.Common.{◌≡◌, ◌+◌, ◌-◌, Some, None, refl, arith}
+use Rattle.balance.specs.Meanings.{IsNode}
+use Rattle.balance.specs.Places.{first, refusal_at}
+use Rattle.balance.proofs.Searches.{column_passes, columns_pass, row_passes, ends_at_column, ends_at_side, outcome}
+use Rattle.balance.proofs.places.every_place_answers.Goals.{else-loop-column-test, then-loop-column-test+in_default+else-column-size}
 use Rattle.balance.proofs.places.every_place_answers.Goals as goal
 
-pub loop-i-init : goal.loop-i-init
-loop-i-init g c = refl
-
-pub loop-j-init : goal.loop-j-init
-loop-j-init g c = refl
-
-pub loop-j-preserved : goal.loop-j-preserved
-loop-j-preserved g c =
+pub loop-column-preserved : goal.loop-column-preserved
+loop-column-preserved g c =
     let m = g.S.System.meaning c.args.system.now in
-    let i = c.loop-i.i + 1 in
-    let j = c.loop-j.j in
-    first_more (λ j. refusal_at (m.coefficient i j)) j c.loop-j.invariant (column_answers m i (omega arith) (j + 1) c.in_default.field-0 (omega arith) c.in_default.ensures.answers_by_the_meaning)
+    column_passes m c.loop-row.row (omega arith, omega arith) c.loop-row.invariant c.loop-column.column (c.loop-column.column + 1 - 1) c.in_default.field-0 (omega arith, omega arith) (omega arith) c.loop-column.invariant c.in_default.ensures.answers_by_the_meaning
 
-pub loop-i-preserved : goal.loop-i-preserved
-loop-i-preserved g c =
+pub loop-row-preserved : goal.loop-row-preserved
+loop-row-preserved g c =
     let m = g.S.System.meaning c.args.system.now in
-    let i = c.loop-i.i in
-    let e = side_reached m i c.loop-j.j c.loop-i.invariant c.loop-j.invariant (omega arith) (omega arith) in
-    first_more (row_refusal m) i c.loop-i.invariant (e ∙ side_answers m (i + 1) (omega arith) c.in_default-right_side.field-0 c.in_default-right_side.ensures.answers_by_the_meaning)
+    let node : IsNode m c.loop-row.row = (omega arith, omega arith) in
+    let before : first (λ j. refusal_at (m.coefficient c.loop-row.row j)) m.size ≡ None =
+    elim c.loop-column-test.branch [
+      | else-loop-column-test w ↦ columns_pass m c.loop-row.row node c.loop-row.invariant c.loop-column.column (omega arith) c.loop-column.invariant
+      | then-loop-column-test+in_default+else-column-size w ↦ column_passes m c.loop-row.row node c.loop-row.invariant c.loop-column.column m.size w.in_default.field-0 (omega arith, omega arith) (omega arith) c.loop-column.invariant w.in_default.ensures.answers_by_the_meaning
+    ]
+    in
+    row_passes m c.loop-row.row node c.loop-row.invariant before (c.loop-row.row + 1 - 1) c.in_default-right_side.field-0 (omega arith) c.in_default-right_side.ensures.answers_by_the_meaning
 
 pub returns-in-Err : goal.returns-in-Err
 returns-in-Err g c =
     let m = g.S.System.meaning c.args.system.now in
-    let i = c.loop-i.i in
-    let j = c.loop-j.j in
-    let x = c.in-Err.refusal in
-    let e = stops_at_column m i j c.loop-i.invariant c.loop-j.invariant (omega arith) x (column_refuses m (i + 1) (omega arith) (j + 1) x (omega arith) c.in-Err.ensures.answers_by_the_meaning) (omega arith) in
-    let o = outcome m _ (Some x) e refl in
+    let e = c.in-Err.refusal in
+    let o = outcome m _ (Some e) (ends_at_column m c.loop-row.row (omega arith, omega arith) c.loop-row.invariant c.loop-column.column e (omega arith, omega arith) c.loop-column.invariant c.in-Err.ensures.answers_by_the_meaning) refl in
     record { answers = o.0; names_the_first_refused_place = o.1 }
 
 pub returns-in-Err-right_side : goal.returns-in-Err-right_side
 returns-in-Err-right_side g c =
     let m = g.S.System.meaning c.args.system.now in
-    let i = c.loop-i.i in
-    let x = c.in-Err-right_side.refusal in
-    let s = side_reached m i c.loop-j.j c.loop-i.invariant c.loop-j.invariant (omega arith) (omega arith) in
-    let e = first_stops (row_refusal m) x i m.size c.loop-i.invariant (s ∙ side_refuses m (i + 1) (omega arith) x c.in-Err-right_side.ensures.answers_by_the_meaning) (omega arith) in
-    let o = outcome m _ (Some x) e refl in
+    let e = c.in-Err-right_side.refusal in
+    let node : IsNode m c.loop-row.row = (omega arith, omega arith) in
+    let before : first (λ j. refusal_at (m.coefficient c.loop-row.row j)) m.size ≡ None =
+    elim c.loop-column-test.branch [
+      | else-loop-column-test w ↦ columns_pass m c.loop-row.row node c.loop-row.invariant c.loop-column.column (omega arith) c.loop-column.invariant
+      | then-loop-column-test+in_default+else-column-size w ↦ column_passes m c.loop-row.row node c.loop-row.invariant c.loop-column.column m.size w.in_default.field-0 (omega arith, omega arith) (omega arith) c.loop-column.invariant w.in_default.ensures.answers_by_the_meaning
+    ]
+    in
+    let o = outcome m _ (Some e) (ends_at_side m c.loop-row.row node c.loop-row.invariant before e c.in-Err-right_side.ensures.answers_by_the_meaning) refl in
     record { answers = o.0; names_the_first_refused_place = o.1 }
 
-pub returns-after-loop-i : goal.returns-after-loop-i
-returns-after-loop-i g c =
+pub returns-in_default-right_side : goal.returns-in_default-right_side
+returns-in_default-right_side g c =
     let m = g.S.System.meaning c.args.system.now in
-    let n : m.size ≡ c.loop-i.i = omega arith in
-    let o = outcome m _ None (ap (first (row_refusal m)) n ∙ c.loop-i.invariant) refl in
+    let node : IsNode m c.loop-row.row = (omega arith, omega arith) in
+    let before : first (λ j. refusal_at (m.coefficient c.loop-row.row j)) m.size ≡ None =
+    elim c.loop-column-test.branch [
+      | else-loop-column-test w ↦ columns_pass m c.loop-row.row node c.loop-row.invariant c.loop-column.column (omega arith) c.loop-column.invariant
+      | then-loop-column-test+in_default+else-column-size w ↦ column_passes m c.loop-row.row node c.loop-row.invariant c.loop-column.column m.size w.in_default.field-0 (omega arith, omega arith) (omega arith) c.loop-column.invariant w.in_default.ensures.answers_by_the_meaning
+    ]
+    in
+    let o = outcome m _ None (row_passes m c.loop-row.row node c.loop-row.invariant before m.size c.in_default-right_side.field-0 (omega arith) c.in_default-right_side.ensures.answers_by_the_meaning) refl in
     record { answers = o.0; names_the_first_refused_place = o.1 }

@@ -1,11 +1,10 @@
 use Rattle.std.proofs.Common.{◌≡◌, ◌++◌, map, take, drop}
 use Rattle.roast.specs.Machine.{after}
 use Rattle.roast.specs.Replays.{ask, shown, replayed}
-use Rattle.roast.specs.Boxed.{box}
 use Rattle.roast.proofs.replay.play_all.Given as goal
 
-abbrev pub invariant-loop-i : goal.invariant-loop-i
-invariant-loop-i g l =
+abbrev pub invariant-loop-entry : goal.invariant-loop-entry
+invariant-loop-entry g l =
     (l.roast.system ≡ l.initial.roast.system)
-    × (after (g.S.System.meaning l.initial.roast.system) (box l.roast.bounds) (map ask (drop l.i l.entries)) ≡ after (g.S.System.meaning l.initial.roast.system) (box l.initial.roast.bounds) (map ask l.initial.entries))
-    × (map shown (take l.i l.entries) ++ replayed (g.S.System.meaning l.initial.roast.system) (box l.roast.bounds) (map ask (drop l.i l.entries)) ≡ replayed (g.S.System.meaning l.initial.roast.system) (box l.initial.roast.bounds) (map ask l.initial.entries))
+    × (after (g.S.System.meaning l.initial.roast.system) l.roast.bounds (map ask (drop l.entry-index l.entry-items)) ≡ after (g.S.System.meaning l.initial.roast.system) l.initial.roast.bounds (map ask l.initial.entry-items))
+    × (map shown (take l.entry-index l.entry-items) ++ replayed (g.S.System.meaning l.initial.roast.system) l.roast.bounds (map ask (drop l.entry-index l.entry-items)) ≡ replayed (g.S.System.meaning l.initial.roast.system) l.initial.roast.bounds (map ask l.initial.entry-items))

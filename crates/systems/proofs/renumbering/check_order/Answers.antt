@@ -1,18 +1,14 @@
-use Rattle.std.proofs.Common.{Ok, Option, sym, ap, arith}
-use Rattle.balance.specs.declared.refusal.Refusal.{Refusal}
-use Rattle.balance.specs.Places.{unless_refused}
-use Rattle.systems.specs.RenumberingsLemmas.{entries_more, stops_outside, stops_at_repeat}
+use Rattle.std.proofs.Common.{◌≡◌, ◌==◌, slice_index, ◌&&◌, not, take, sym, ◌∙◌, arith, rules}
+use Rattle.std.specs.List.{list_any}
+use Rattle.balance.specs.Meanings.{is_node}
+use Rattle.systems.specs.Renumberings.{entry_allowed}
+use Rattle.systems.specs.RenumberingsLemmas.{entry_allowed_is}
 use Rattle.systems.proofs.renumbering.check_order.Goals as goal
 
-pub returns-then-not-is_node : goal.returns-then-not-is_node
-returns-then-not-is_node c =
-    let e = stops_outside c.args.size c.args.order.now c.loop-k.k (omega arith) c.loop-k.invariant (omega arith) (sym c.if-not-is_node.ensures.is) in
-    sym (ap (λ (o : Option Refusal). unless_refused o (Ok tt)) e)
-
-pub returns-then-not-is_new : goal.returns-then-not-is_new
-returns-then-not-is_new c =
-    let e = stops_at_repeat c.args.size c.args.order.now c.loop-k.k (omega arith) c.loop-k.invariant (omega arith) (sym c.if-not-is_node.ensures.is) (sym c.if-not-is_new.ensures) in
-    sym (ap (λ (o : Option Refusal). unless_refused o (Ok tt)) e)
-
-pub loop-k-preserved : goal.loop-k-preserved
-loop-k-preserved c = entries_more c.args.size c.args.order.now c.loop-k.k c.loop-k.invariant (sym c.if-not-is_node.ensures.is) (sym c.if-not-is_new.ensures)
+pub returns : goal.returns
+returns c =
+    let n = c.args.size in
+    let ps = c.args.order.now in
+    c.check_entries.ensures.refuses_the_first_not_allowed (entry_allowed n ps) (λ k r l p.
+    let e : r ≡ (is_node n (slice_index ps k) && not (list_any (λ q. q == slice_index ps k) (take k ps))) = search rules in
+    e ∙ sym (entry_allowed_is n ps k (omega arith)))

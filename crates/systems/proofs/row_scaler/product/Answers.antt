@@ -4,7 +4,7 @@ use Rattle.systems.specs.RowScalersLemmas.{product_fits}
 use Rattle.systems.proofs.row_scaler.product.Goals as goal
 
 pub overflow_mul-result : goal.overflow_mul-result
-overflow_mul-result c = held ◌*ℤ◌ c.args.end c.args.factor c.ranges.end c.ranges.factor (product_fits c.args.end c.args.factor c.requires.0 c.requires.1)
+overflow_mul-result c = held ◌*ℤ◌ c.args.end c.args.factor c.ranges.end c.ranges.factor (product_fits c.args.end c.args.factor c.requires.end_keeps_the_limit c.requires.factor_keeps_the_limit)
 
 pub returns : goal.returns
-returns c = (result_held ◌*ℤ◌ c.args.end c.args.factor c.ranges.end c.ranges.factor _ (held ◌*ℤ◌ c.args.end c.args.factor c.ranges.end c.ranges.factor (product_fits c.args.end c.args.factor c.requires.0 c.requires.1), refl)).1
+returns c = (result_held ◌*ℤ◌ c.args.end c.args.factor c.ranges.end c.ranges.factor _ (held ◌*ℤ◌ c.args.end c.args.factor c.ranges.end c.ranges.factor (product_fits c.args.end c.args.factor c.requires.end_keeps_the_limit c.requires.factor_keeps_the_limit), refl)).1

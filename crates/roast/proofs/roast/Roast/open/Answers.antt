@@ -1,22 +1,20 @@
-use Rattle.std.proofs.Common.{sym, refl, ap, subst}
-use Rattle.roast.specs.Certificates.{OpensExactly}
-use Rattle.roast.specs.Answers.{opened, opened_box}
-use Rattle.roast.specs.Boxed.{box}
+use Rattle.std.proofs.Common.{Ok, Err, Result, IsErr, sym, subst}
+use Rattle.std.proofs.lemmas.Bool.{false≢true}
+use Rattle.balance.specs.declared.refusal.Refusal.{Refusal}
+use Rattle.roast.specs.Certificates.{Opens, OpensExactly}
 use Rattle.roast.proofs.FirstBox.{k_least}
 use Rattle.roast.proofs.Openings.{opens_exactly}
 use Rattle.roast.proofs.roast.Roast.open.Goals as goal
 
-pub returns-in-Ok : goal.returns-in-Ok
-returns-in-Ok g c =
-    let m = g.S.System.meaning c.args.self.now.system in
-    let us = c.args.certificate.now in
-    let e = c.in-Ok.ensures in
-    let o = subst (OpensExactly m us) (sym e) (opens_exactly m us) in
-    record { answers = ap opened e; leaves = ap (opened_box (box c.args.self.now.bounds)) e; opens_exactly_when_certified = o; each_end_is_the_least_bound = λ i. k_least m us i o.0.passes.dominant; keeps_the_system = refl }
+pub returns-in_err-self-clause-opens_exactly_when_certified : goal.returns-in_err-self-clause-opens_exactly_when_certified
+returns-in_err-self-clause-opens_exactly_when_certified g c = by _ c.from_residual.result c.from_residual.ensures.0
+  where
+    by : (Opened : Type 0) (r : Result (Unit {0}) Refusal) → IsErr r → elim r as (λ r. Type 0) [ Ok done ↦ Opened | Err e ↦ (Opens (g.S.System.meaning c.args.self.now.system) c.args.certificate.now → ⊥) ]
+    by Opened (Ok done) h = absurd (false≢true h)
+    by Opened (Err e) h = subst (OpensExactly (g.S.System.meaning c.args.self.now.system) c.args.certificate.now) (sym c.in_err-self.ensures) (opens_exactly (g.S.System.meaning c.args.self.now.system) c.args.certificate.now)
 
-pub returns-in-Err : goal.returns-in-Err
-returns-in-Err g c =
-    let m = g.S.System.meaning c.args.self.now.system in
-    let us = c.args.certificate.now in
-    let e = c.in-Err.ensures in
-    record { answers = ap opened e; leaves = ap (opened_box (box c.args.self.now.bounds)) e; opens_exactly_when_certified = subst (OpensExactly m us) (sym e) (opens_exactly m us); each_end_is_the_least_bound = tt; keeps_the_system = refl }
+pub returns-clause-opens_exactly_when_certified : goal.returns-clause-opens_exactly_when_certified
+returns-clause-opens_exactly_when_certified g c = subst (OpensExactly (g.S.System.meaning c.args.self.now.system) c.args.certificate.now) (sym c.in_ok-self.ensures) (opens_exactly (g.S.System.meaning c.args.self.now.system) c.args.certificate.now)
+
+pub returns-clause-each_end_is_the_least_bound : goal.returns-clause-each_end_is_the_least_bound
+returns-clause-each_end_is_the_least_bound g c i = k_least (g.S.System.meaning c.args.self.now.system) c.args.certificate.now i (returns-clause-opens_exactly_when_certified g c).0.passes.dominant

@@ -1,32 +1,24 @@
-use Rattle.std.proofs.Common.{◌≡◌, ℕ, Some, None, vec_items, sym, refl, ◌∙◌, arith}
+use Rattle.std.proofs.Common.{◌≡◌, Some, None, vec_items, sym, ◌∙◌}
 use Rattle.balance.proofs.Searches.{unrefused, refused_by}
 use Rattle.systems.specs.Renumberings.{order_refusal}
 use Rattle.systems.specs.RenumberingsLemmas.{permutes, permutation_taken, renumbers_solutions}
 use Rattle.systems.proofs.renumbering.Renumbering.new.Goals as goal
 
-pub returns-in-Err : goal.returns-in-Err
-returns-in-Err g c =
+pub returns-in-Err-clause-made_exactly_for_a_permutation : goal.returns-in-Err-clause-made_exactly_for_a_permutation
+returns-in-Err-clause-made_exactly_for_a_permutation g c =
     let n = (g.S.System.meaning c.args.system).size in
     let ps = vec_items c.args.order in
     let given : order_refusal n ps ≡ order_refusal c.size.result c.deref.result.now = λ i. order_refusal (sym c.size.ensures.is_the_size i) (sym c.deref.ensures.value i) in
     let e : order_refusal n ps ≡ Some c.in-Err.refusal = given ∙ refused_by _ _ c.in-Err.ensures in
-    record {
-      made_or_refused_at_the_first_entry = e;
-      made_exactly_for_a_permutation = λ p. let none = permutation_taken n ps p in let z : ◌≡◌ {A = ℕ} 0 1 = cc in omega arith;
-      holds_the_system_and_the_order = refl;
-      renumbers_the_solutions = tt;
-    }
+    λ p. let none = permutation_taken n ps p in cc
 
-pub returns : goal.returns
-returns g c =
-    let m = g.S.System.meaning c.args.system in
-    let ps = vec_items c.args.order in
-    let given : order_refusal m.size ps ≡ order_refusal c.size.result c.deref.result.now = λ i. order_refusal (sym c.size.ensures.is_the_size i) (sym c.deref.ensures.value i) in
-    let none : order_refusal m.size ps ≡ None = given ∙ unrefused _ c.in_default.ensures in
-    let p = permutes m.size ps none in
-    record {
-      made_or_refused_at_the_first_entry = none;
-      made_exactly_for_a_permutation = p;
-      holds_the_system_and_the_order = (refl, refl);
-      renumbers_the_solutions = renumbers_solutions m (g.met.S.System.lawful c.args.system) ps p.0 p.1;
-    }
+taken : (g : _) (c : goal.After-result-1 g) → order_refusal (g.S.System.meaning c.args.system).size (vec_items c.args.order) ≡ None
+taken g c = (λ i. order_refusal (sym c.size.ensures.is_the_size i) (sym c.deref.ensures.value i)) ∙ unrefused _ c.in-Ok.ensures
+
+pub returns-in-Ok-clause-made_exactly_for_a_permutation : goal.returns-in-Ok-clause-made_exactly_for_a_permutation
+returns-in-Ok-clause-made_exactly_for_a_permutation g c = permutes _ _ (taken g c)
+
+pub returns-in-Ok-clause-renumbers_the_solutions : goal.returns-in-Ok-clause-renumbers_the_solutions
+returns-in-Ok-clause-renumbers_the_solutions g c =
+    let p = permutes _ _ (taken g c) in
+    renumbers_solutions (g.S.System.meaning c.args.system) (g.met.S.System.lawful c.args.system) (vec_items c.args.order) p.0 p.1

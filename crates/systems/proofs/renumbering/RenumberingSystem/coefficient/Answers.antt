@@ -1,11 +1,10 @@
-use Rattle.std.proofs.Common.{vec_items, vec_len, ◌∙◌, arith}
+use Rattle.std.proofs.Common.{vec_items, ◌∙◌, arith}
 use Rattle.balance.specs.Meanings.{coefficient_answer}
-use Rattle.systems.specs.RenumberingsLemmas.{below_within, coefficient_passed}
+use Rattle.systems.specs.RenumberingsLemmas.{coefficient_passed}
 use Rattle.systems.proofs.renumbering.RenumberingSystem.coefficient.Goals as goal
 
 pub returns : goal.returns
 returns g c =
     let l = c.args.self.now in
     let m = g.S.System.meaning l.system in
-    let ps = vec_items l.order in
-    record { answers_by_the_meaning = c.coefficient.ensures.answers_by_the_meaning ∙ (λ i. coefficient_answer m (c.below.ensures i) (c.below-2.ensures i)) ∙ coefficient_passed ps m (λ i h. below_within ps (vec_len l.order) m.size i l.taken h.0 h.1) c.args.row c.args.column (omega arith) (omega arith) }
+    record { answers_by_the_meaning = c.coefficient.ensures.answers_by_the_meaning ∙ (λ i. coefficient_answer m (c.below.ensures i) (c.below-2.ensures i)) ∙ coefficient_passed (vec_items l.order) m l.taken c.args.row c.args.column (omega (arith, c.in_ok-check_node.ensures.passes_nodes)) (omega (arith, c.in_ok-check_node-2.ensures.passes_nodes)) }

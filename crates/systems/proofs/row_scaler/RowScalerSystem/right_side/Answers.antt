@@ -1,28 +1,15 @@
-use Rattle.std.proofs.Common.{◌+◌, ◌^◌, true, vec_items, ap, ◌∙◌, arith}
-use Rattle.balance.specs.Meanings.{is_node, answer, limited}
-use Rattle.balance.proofs.RowSums.{right_side_narrow}
-use Rattle.systems.specs.RowScalers.{row_factor}
-use Rattle.systems.specs.RowScalersLemmas.{scaled_held, scaled_narrow, scaled_behind}
+use Rattle.std.proofs.Common.{◌≡◌, ◌+◌, ◌^◌, vec_items, ◌∙◌, arith, w64, to_z, of_z}
+use Rattle.std.proofs.lemmas.Int.{ints}
+use Rattle.balance.specs.Meanings.{answer, limited}
+use Rattle.systems.specs.RowScalers.{scaled, factor_at}
+use Rattle.systems.specs.RowScalersLemmas.{factors, scaled_right_side}
 use Rattle.systems.proofs.row_scaler.RowScalerSystem.right_side.Goals as goal
 
-pub scaled-requires : goal.scaled-requires
-scaled-requires g c =
-    let s = c.args.self.now.system in
-    let b = right_side_narrow (g.S.System.meaning s) (g.met.S.System.lawful s) c.args.row c.in_ok-lower.lower c.in_ok-lower.upper c.in_ok-lower.ensures.answers_by_the_meaning in
-    scaled_narrow (2 ^ 42) c.in_ok-lower.lower c.in_ok-lower.upper c.in-Some.factor (omega arith) b c.in-Some.ensures.small
-
-pub overflow_add-column : goal.overflow_add-column
-overflow_add-column g c = omega (arith, c.size-column.ensures.is_the_size, (g.met.S.System.lawful c.args.self.now.system).few)
-
-pub returns-in-Some : goal.returns-in-Some
-returns-in-Some g c =
-    let s = c.args.self.now.system in
-    let m = g.S.System.meaning s in
-    let l = c.in_ok-lower.lower in
-    let u = c.in_ok-lower.upper in
-    let f = c.in-Some.factor in
-    let h = c.in_ok-lower.ensures.answers_by_the_meaning in
-    let b = right_side_narrow m (g.met.S.System.lawful s) c.args.row l u h in
-    let d = c.scaled.ensures ∙ scaled_held (2 ^ 42) l u f (omega arith) b c.in-Some.ensures.small in
-    let n = ap (λ n. answer (limited (2 ^ 42) 3 c.args.row (n + 1) c.scaled.result)) c.size-column.ensures.is_the_size in
-    record { answers_by_the_meaning = c.limited_right_side.ensures.answers_within_the_limit ∙ n ∙ scaled_behind (2 ^ 42) c.args.row (m.size + 1) c.args.row c.args.row (is_node m.size c.args.row) true (m.right_side c.args.row) (row_factor (vec_items c.args.self.now.factors) m.size c.args.row) l u f c.scaled.result h c.in-Some.ensures.is d }
+pub returns : goal.returns
+returns g c =
+    let t = c.args.self.now in
+    let m = g.S.System.meaning t.system in
+    let fs = vec_items t.factors in
+    let f : to_z w64 (of_z w64 c.factor.result) ≡ factor_at fs c.args.row = (let e : to_z w64 (of_z w64 c.factor.result) ≡ c.factor.result = omega (arith, ints, c.factor.ensures.keeps_the_limit) in e ∙ c.factor.ensures.is) in
+    let r = c.scaled.ensures ∙ (λ i. scaled (f i) (c.from-range.ensures i)) in
+    record { answers_by_the_meaning = c.limited.ensures.answers_within_the_limits ∙ (λ i. answer (limited (2 ^ 42) 3 c.args.row (c.size-column.ensures.is_the_size i + 1) (r i))) ∙ scaled_right_side m fs (factors m.size fs t.taken).count c.in_ok-right_side.field-0 c.args.row c.in_ok-right_side.ensures.answers_by_the_meaning }

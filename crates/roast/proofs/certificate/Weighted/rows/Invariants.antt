@@ -1,0 +1,10 @@
+use Rattle.std.proofs.Common.{◌-◌}
+use Rattle.roast.specs.Certificates.{dominance_refusal}
+use Rattle.roast.specs.FirstBox.{row}
+use Rattle.roast.proofs.Certified.{Filled}
+use Rattle.roast.proofs.certificate.Weighted.rows.Given as goal
+
+abbrev pub invariant-loop-node : goal.invariant-loop-node
+invariant-loop-node g l =
+    let m = g.S.System.meaning l.self.system.now in
+    Filled (dominance_refusal m l.self.numbers.now) (row m l.self.numbers.now) l.rows.items (l.node - 1)
