@@ -4,7 +4,7 @@ use balance::refusal::Refusal;
 use systems::record::Record;
 
 // Two nodes, written again here since a program exports nothing: rows [4, 5] [-1, 1] | [8, 10] and [-1, 1] [4, 5] | [-10, -8].
-pub const RANGES: [Range; 6] = [
+pub(crate) const RANGES: [Range; 6] = [
     Range { lower: 4, upper: 5 },
     Range {
         lower: -1,
@@ -25,15 +25,15 @@ pub const RANGES: [Range; 6] = [
     },
 ];
 
-pub fn range(lower: i64, upper: i64) -> Range {
+pub(crate) fn range(lower: i64, upper: i64) -> Range {
     Range { lower, upper }
 }
 
-pub fn limit(part: usize, row: usize, column: usize) -> Refusal {
+pub(crate) fn limit(part: usize, row: usize, column: usize) -> Refusal {
     Refusal::Limit { part, row, column }
 }
 
-pub fn link(first: usize, second: usize, lower: i64, upper: i64) -> Record {
+pub(crate) fn link(first: usize, second: usize, lower: i64, upper: i64) -> Record {
     Record::Link {
         first,
         second,
@@ -41,7 +41,7 @@ pub fn link(first: usize, second: usize, lower: i64, upper: i64) -> Record {
     }
 }
 
-pub fn outside(node: usize, conductance: Range, temperature: Range) -> Record {
+pub(crate) fn outside(node: usize, conductance: Range, temperature: Range) -> Record {
     Record::Outside {
         node,
         conductance,
@@ -49,7 +49,7 @@ pub fn outside(node: usize, conductance: Range, temperature: Range) -> Record {
     }
 }
 
-pub fn heat(node: usize, lower: i64, upper: i64) -> Record {
+pub(crate) fn heat(node: usize, lower: i64, upper: i64) -> Record {
     Record::Heat {
         node,
         heat: range(lower, upper),
@@ -57,7 +57,7 @@ pub fn heat(node: usize, lower: i64, upper: i64) -> Record {
 }
 
 // What was made, or what was handed back, is let go; only the refusal is told.
-pub fn outcome<T: Drop, E>(made: Result<T, E>) -> Result<(), Refusal>
+pub(crate) fn outcome<T: Drop, E>(made: Result<T, E>) -> Result<(), Refusal>
 where
     Refusal: From<E>,
 {
