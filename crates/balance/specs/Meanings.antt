@@ -69,6 +69,10 @@ is_node n i = cond (nat_le 1 i) (nat_le i n) false
 abbrev pub node_check : ℕ → ℕ → Result (Unit {0}) Refusal
 node_check n i = cond (is_node n i) (Ok tt) (Err (Node i))
 
+-- the row before the column
+abbrev pub place_check : ℕ → ℕ → ℕ → Result (Unit {0}) Refusal
+place_check n i j = cond (is_node n i) (node_check n j) (Err (Node i))
+
 -- a place outside the nodes is refused by the node given, the row first
 abbrev pub coefficient_answer : Meaning → ℕ → ℕ → Result (ℤ × ℤ) Refusal
 coefficient_answer m i j = cond (is_node m.size i) (cond (is_node m.size j) (answer (m.coefficient i j)) (Err (Node j))) (Err (Node i))

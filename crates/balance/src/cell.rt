@@ -6,6 +6,7 @@ ghost use Rattle.std.proofs.Common.{rules};
 
 use super::range::Range;
 use super::refusal::Refusal;
+use super::system::RIGHT_SIDES;
 
 // One cell of a table: it tells two ends, in order and the same at every question.
 pub trait Cell {
@@ -38,7 +39,7 @@ impl Cell for Range {
     ghost ordered = { Prim.search rules };
 
     fn tell(&self) -> Range {
-        if self.lower <= self.upper {
+        if self.is_in_order() {
             *self
         } else {
             Range::ZERO
@@ -52,12 +53,6 @@ pub struct Centred {
     pub centre: i64,
     pub tolerance: i64,
 }
-
-// A centre lies within ±2^42.
-const CENTRES: Range = Range {
-    lower: -4_398_046_511_104,
-    upper: 4_398_046_511_104,
-};
 
 // A tolerance lies in 0 to 2^42.
 const TOLERANCES: Range = Range {
@@ -81,10 +76,11 @@ impl Centred {
         }
     }
 
+    // A centre has the limits of a right side.
     fn is_allowed(&self) -> bool
         ensures { result ≡ allowed self.now.centre self.now.tolerance }
     {
-        CENTRES.contains(self.centre) && TOLERANCES.contains(self.tolerance)
+        RIGHT_SIDES.contains(self.centre) && TOLERANCES.contains(self.tolerance)
     }
 }
 

@@ -6,14 +6,8 @@ use super::cell::Cell;
 use super::places::every_place_answers;
 use super::range::Range;
 use super::refusal::Refusal;
-use super::rows::{right_side_range, row_sum};
+use super::rows::{SMALL, right_side_range, row_sum};
 use super::system::System;
-
-// A numerator lies within ±2^37.
-const NUMERATORS: Range = Range {
-    lower: -137_438_953_472,
-    upper: 137_438_953_472,
-};
 
 // A denominator lies in 1 to 2^20.
 const DENOMINATORS: Range = Range {
@@ -54,7 +48,7 @@ impl<'a> Point<'a> {
         if numerators.len() != size || !DENOMINATORS.contains(denominator) {
             return Err(Refusal::Point { place: 0 });
         }
-        match NUMERATORS.first_outside(numerators) {
+        match SMALL.first_outside(numerators) {
             Some(j) => Err(Refusal::Point { place: j + 1 }),
             None => Ok(Point {
                 numerators,

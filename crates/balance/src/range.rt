@@ -1,6 +1,6 @@
-ghost use Rattle.std.specs.Prelude.{◌≡◌, ◌↔◌, ◌+ℤ◌, ◌-ℤ◌, ◌*ℤ◌, Some, IsTrue, not, position};
+ghost use Rattle.std.specs.Prelude.{◌≡◌, ◌↔◌, ◌+ℤ◌, ◌-ℤ◌, ◌*ℤ◌, Some, IsTrue, not, position, int_le};
 ghost use Rattle.std.specs.Option.{SomeIff};
-ghost use Rattle.balance.specs.Ranges.{range, range_making, range_text, contains, within, meets, plus, minus, spanned, times, ◌⊆◌, Fits64, Inside, IntervalExtension};
+ghost use Rattle.balance.specs.Ranges.{range, range_making, range_text, contains, within, meets, plus, minus, spanned, times, ◌⊆◌, Ordered, Fits64, Inside, IntervalExtension};
 
 use super::refusal::Refusal;
 use std::fmt;
@@ -18,11 +18,20 @@ impl Range {
     pub fn new(lower: i64, upper: i64) -> Result<Range, Refusal>
         ensures made_exactly_in_order { result ≡ range_making lower upper }
     {
-        if lower <= upper {
-            Ok(Range { lower, upper })
+        let range = Range { lower, upper };
+        if range.is_in_order() {
+            Ok(range)
         } else {
             Err(Refusal::Crossed { place: 0 })
         }
+    }
+
+    // Whether the lower end is not above the upper end.
+    pub fn is_in_order(self) -> bool
+        ensures is { result ≡ int_le self.lower self.upper }
+        ensures tells_order { IsTrue result ↔ Ordered self }
+    {
+        self.lower <= self.upper
     }
 
     pub fn contains(self, number: i64) -> bool

@@ -64,6 +64,7 @@ pub enum Refusal {
 }
 
 impl Refusal {
+    // A byte and no enum of its own: users see the number, and it is written into a record of readings.
     pub fn number(&self) -> u8
         ensures numbers_the_case { result ≡ number self.now }
     {

@@ -23,8 +23,8 @@ pub fn right_side_range<S: System>(system: &S, row: usize) -> Option<Range>
     system.right_side(row).ok().map(Range::from)
 }
 
-// No end of a node's range goes beyond ±2^37 in the sum of a row.
-const SMALL: Range = Range {
+// No number of a node goes beyond ±2^37 in the sum of a row.
+pub(crate) const SMALL: Range = Range {
     lower: -137_438_953_472,
     upper: 137_438_953_472,
 };

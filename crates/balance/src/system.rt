@@ -1,5 +1,5 @@
-ghost use Rattle.std.specs.Prelude.{◌≡◌, ℕ, ◌≤◌, true, OnOk};
-ghost use Rattle.balance.specs.Meanings.{Meaning, Lawful, coefficient_answer, right_side_answer, is_node, node_check, answer, placed};
+ghost use Rattle.std.specs.Prelude.{◌≡◌, ℕ, ◌≤◌, ◌&&◌, true, OnOk, nat_le};
+ghost use Rattle.balance.specs.Meanings.{Meaning, Lawful, coefficient_answer, right_side_answer, is_node, node_check, place_check, answer, placed};
 
 use super::range::Range;
 use super::refusal::Refusal;
@@ -36,6 +36,13 @@ pub const RIGHT_SIDES: Range = Range {
     upper: 4_398_046_511_104,
 };
 
+// Whether a system may have so many nodes: 1 to 32.
+pub fn is_size(count: usize) -> bool
+    ensures is { result ≡ (nat_le 1 count && nat_le count 32) }
+{
+    (1..=32).contains(&count)
+}
+
 // Whether a number is one of the nodes 1 to n.
 pub fn is_node(size: usize, node: usize) -> bool
     ensures is { result ≡ is_node size node }
@@ -54,6 +61,16 @@ pub fn check_node(size: usize, node: usize) -> Result<(), Refusal>
     } else {
         Err(Refusal::Node { place: node })
     }
+}
+
+// Refuses a row that is no node, and then a column that is none.
+pub fn check_place(size: usize, row: usize, column: usize) -> Result<(), Refusal>
+    ensures refuses_the_row_first { result ≡ place_check size row column }
+    ensures passes_rows { OnOk result ((1 ≤ row) × (row ≤ size)) }
+    ensures passes_columns { OnOk result ((1 ≤ column) × (column ≤ size)) }
+{
+    check_node(size, row)?;
+    check_node(size, column)
 }
 
 // A range as an answer, or the refusal of its place where it goes beyond the limits.

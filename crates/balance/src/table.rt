@@ -1,12 +1,13 @@
 ghost use Rattle.std.specs.Prelude.{◌≡◌, ◌+◌, ◌≤◌, ◌↔◌, map, IsOk, IfOk, IfErr, vec_len};
 ghost use Rattle.balance.specs.declared.refusal.Refusal.TheVariants.{Size};
+ghost use Rattle.balance.specs.Meanings.{answer, placed};
 ghost use Rattle.balance.specs.Tables.{Counted, cell, table};
 ghost use Rattle.balance.specs.TablesLemmas.{table_lawful};
 
 use super::cell::Cell;
 use super::range::Range;
 use super::refusal::{Refusal, Returned};
-use super::system::{COEFFICIENTS, RIGHT_SIDES, System, check_node, limited};
+use super::system::{COEFFICIENTS, RIGHT_SIDES, System, check_node, check_place, is_size, limited};
 
 // The table's part number. In a generic `impl` the checker does not see the value of `Self::PART`, so the constant has a name of its own.
 const TABLE_PART: usize = 1;
@@ -28,7 +29,7 @@ impl<C: Cell> Table<C> {
         ensures refuses_size_or_count { IfErr result (λ e. e.refusal ≡ Size 0) }
         ensures hands_the_cells_back { IfErr result (λ e. e.value ≡ cells) }
     {
-        if !(1..=32).contains(&size) || cells.len() != size * (size + 1) {
+        if !is_size(size) || cells.len() != size * (size + 1) {
             return Err(Returned {
                 refusal: Refusal::Size { place: 0 },
                 value: cells,
@@ -45,6 +46,15 @@ impl<C: Cell> Table<C> {
     {
         self.cells[(row - 1) * (self.size + 1) + (column - 1)].tell()
     }
+
+    // That as an answer, or the refusal of the place.
+    fn answer(&self, limits: Range, row: usize, column: usize) -> Result<(i64, i64), Refusal>
+        requires row_is_a_node { (1 ≤ row) × (row ≤ self.now.size) }
+        requires column_has_a_cell { (1 ≤ column) × (column ≤ self.now.size + 1) }
+        ensures { result ≡ answer (placed limits 1 row column (cell self.now.size (map C.Cell.ends self.now.cells.items) row column)) }
+    {
+        limited(self.told(row, column), limits, TABLE_PART, row, column)
+    }
 }
 
 impl<C: Cell> System for Table<C> {
@@ -59,20 +69,12 @@ impl<C: Cell> System for Table<C> {
     }
 
     fn coefficient(&self, row: usize, column: usize) -> Result<(i64, i64), Refusal> {
-        check_node(self.size, row)?;
-        check_node(self.size, column)?;
-        limited(
-            self.told(row, column),
-            COEFFICIENTS,
-            TABLE_PART,
-            row,
-            column,
-        )
+        check_place(self.size, row, column)?;
+        self.answer(COEFFICIENTS, row, column)
     }
 
     fn right_side(&self, row: usize) -> Result<(i64, i64), Refusal> {
         check_node(self.size, row)?;
-        let column = self.size + 1;
-        limited(self.told(row, column), RIGHT_SIDES, TABLE_PART, row, column)
+        self.answer(RIGHT_SIDES, row, self.size + 1)
     }
 }
