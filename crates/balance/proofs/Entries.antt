@@ -8,6 +8,11 @@ use Rattle.balance.specs.declared.refusal.Refusal.{Refusal}
 use Rattle.balance.specs.Places.{first}
 use Rattle.balance.proofs.Searches.{first_stops}
 
+-- what a test says that refuses nothing
+pub passed : (test : Bool) (e : Refusal) → cond test None (Some e) ≡ None → test ≡ true
+passed true e h = refl
+passed false e h = cc
+
 pub none_all : (f : ℕ → Option Refusal) (n : ℕ) → ((j : ℕ) → 1 ≤ j → j ≤ n → f j ≡ None) → first f n ≡ None
 none_all f zero h = refl
 none_all f (suc n) h = rw (none_all f n (λ j p q. h j p (omega arith)), h (suc n) (omega arith) (omega arith))

@@ -11,6 +11,7 @@ use Rattle.balance.specs.Meanings.{Place, told, refused, Meaning, IsNode, Told, 
 use Rattle.balance.specs.Places.{first, first_refusal, every}
 use Rattle.balance.specs.Rows.{at, found, small, terms, sum_of, row_sum}
 use Rattle.balance.specs.Points.{numerator, between, numerator_refusal, point_refusal, row, fits, possible_answer, point, Possible, TellsPossible}
+use Rattle.balance.proofs.Entries.{passed}
 use Rattle.balance.proofs.Searches.{none_of, coefficient_at, right_side_at}
 use Rattle.balance.proofs.Ranges.{times_between_bounds, narrow_fits}
 use Rattle.balance.proofs.RowSums.{row_sum_is}
@@ -35,12 +36,8 @@ pub record Allowed (n : ℕ) (ps : List ℤ) (q : ℤ) : Type 0 where
 pub allowed : (n : ℕ) (ps : List ℤ) (q : ℤ) → point_refusal n ps q ≡ None → Allowed n ps q
 allowed n ps q h = by (eqb (length ps) n) (denominator_between q) refl refl h
   where
-    passes : (b : Bool) (j : ℕ) → numerator_between (numerator ps j) ≡ b → cond b None (Some (PointRefusal j)) ≡ None → b ≡ true
-    passes true j e k = refl
-    passes false j e k = cc
-
     by : (s t : Bool) → eqb (length ps) n ≡ s → denominator_between q ≡ t → cond s (cond t (first (numerator_refusal ps) n) (Some (PointRefusal 0))) (Some (PointRefusal 0)) ≡ None → Allowed n ps q
-    by true true e f k = record { count = eqb-true (length ps) n e; denominator = f; numerators = λ j a b. passes (numerator_between (numerator ps j)) j refl (none_of (numerator_refusal ps) n k j a b) }
+    by true true e f k = record { count = eqb-true (length ps) n e; denominator = f; numerators = λ j a b. passed _ (PointRefusal j) (none_of (numerator_refusal ps) n k j a b) }
     by true false e f k = cc
     by false t e f k = cc
 
