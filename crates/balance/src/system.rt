@@ -4,7 +4,8 @@ ghost use Rattle.balance.specs.Meanings.{Meaning, Lawful, coefficient_answer, ri
 use super::range::Range;
 use super::refusal::Refusal;
 
-// Row and column are two numbers in each question and each refusal, as the interface is asked.
+// Row and column are two numbers in each question and each refusal, as the interface is asked. The two ends come as a pair, by the rule on the
+// form of a system; `Range::from` makes a range of it.
 // An interval linear system of 1 to 32 nodes. It is asked for its size and for the two ends at each place; a question changes nothing.
 pub trait System {
     // The part that the system names in a refusal 8 of its own.
