@@ -1,4 +1,5 @@
-ghost use Rattle.std.specs.Prelude.{Some};
+ghost use Rattle.std.specs.Prelude.{◌≡◌, Some};
+ghost use Rattle.balance.specs.Ranges.{range};
 ghost use Rattle.roast.specs.Texts.{reading_text, call_text, answer_text};
 
 use balance::range::Range;
@@ -48,15 +49,23 @@ pub struct Entry {
     pub answer: Option<Result<Answer, Refusal>>,
 }
 
+impl From<Reading> for Range {
+    ghost from_gives = { λ r x. x ≡ range r.lower r.upper };
+
+    fn from(reading: Reading) -> Range {
+        Range {
+            lower: reading.lower,
+            upper: reading.upper,
+        }
+    }
+}
+
 // A record is shown by what was read.
 impl fmt::Display for Reading {
     ghost output = { λ r. Some (reading_text r.node r.lower r.upper) };
 
     fn fmt<W: fmt::Write>(&self, f: &mut fmt::Formatter<W>) -> fmt::Result {
-        let range = Range {
-            lower: self.lower,
-            upper: self.upper,
-        };
+        let range = Range::from(*self);
         write!(f, "reading {range} at node {}", self.node)
     }
 }

@@ -100,13 +100,8 @@ impl Bounds {
     {
         // By index, by the rule that the records are taken in a loop with their index and each answer is written in place.
         for i in 0..list.len() {
-            let Reading {
-                node,
-                lower,
-                upper,
-                ..
-            } = list[i];
-            list[i].answer = mark(self.read(node, Range { lower, upper }));
+            let record = list[i];
+            list[i].answer = mark(self.read(record.node, record.into()));
         }
     }
 }
