@@ -9,15 +9,6 @@ fn entry(call: Call) -> Entry {
     Entry { call, answer: None }
 }
 
-fn reading(node: usize, lower: i64, upper: i64) -> Reading {
-    Reading {
-        node,
-        lower,
-        upper,
-        answer: 0,
-    }
-}
-
 // Row steps first, then a reading, one that is in conflict, and rounds.
 fn steps_first(heap: Global) -> Result<Vec<Entry>, AllocError> {
     let mut entries = Vec::new(heap);
@@ -43,9 +34,9 @@ fn steps_first(heap: Global) -> Result<Vec<Entry>, AllocError> {
 // A list of readings first, two of them refused, then rounds and a row step.
 fn readings_first(heap: Global) -> Result<Vec<Entry>, AllocError> {
     let mut records = Vec::new(heap);
-    records.push(reading(3, 0, 1))?;
-    records.push(reading(1, 2, 3))?;
-    records.push(reading(2, 1, 0))?;
+    records.push(Reading::new(3, 0, 1))?;
+    records.push(Reading::new(1, 2, 3))?;
+    records.push(Reading::new(2, 1, 0))?;
     let mut entries = Vec::new(heap);
     entries.push(entry(Call::Readings { records }))?;
     entries.push(entry(Call::Round))?;

@@ -270,28 +270,20 @@ mod roasting {
         assert_eq!(rt; roast.open(&[1, 1]), Ok(()));
         let mut list = [
             Reading {
-                node: 1,
-                lower: 2,
-                upper: 3,
                 answer: 99,
+                ..Reading::new(1, 2, 3)
             },
             Reading {
-                node: 1,
-                lower: 4,
-                upper: 9,
                 answer: 99,
+                ..Reading::new(1, 4, 9)
             },
             Reading {
-                node: 0,
-                lower: 4,
-                upper: 9,
                 answer: 99,
+                ..Reading::new(0, 4, 9)
             },
             Reading {
-                node: 2,
-                lower: 9,
-                upper: 4,
                 answer: 99,
+                ..Reading::new(2, 9, 4)
             },
         ];
         roast.readings(&mut list);
@@ -301,10 +293,8 @@ mod roasting {
         assert_eq!(rt;
             list[3],
             Reading {
-                node: 2,
-                lower: 9,
-                upper: 4,
                 answer: 6,
+                ..Reading::new(2, 9, 4)
             }
         );
         assert_eq!(rt; roast.ends(1), Ok((2, 3)));

@@ -16,6 +16,20 @@ pub struct Reading {
     pub answer: u8,
 }
 
+impl Reading {
+    // One that was not taken yet.
+    pub fn new(node: usize, lower: i64, upper: i64) -> Reading
+        ensures is_unanswered { result ≡ record { node = node; lower = lower; upper = upper; answer = 0 } }
+    {
+        Reading {
+            node,
+            lower,
+            upper,
+            answer: 0,
+        }
+    }
+}
+
 // A call on a roast.
 #[derive(PartialEq, Eq, Debug, Drop)]
 pub enum Call {
@@ -77,15 +91,7 @@ impl fmt::Display for Call {
         match self {
             Call::RowStep { node } => write!(f, "row step {node}"),
             Call::Round => f.write_str("round"),
-            Call::Reading { node, lower, upper } => {
-                let record = Reading {
-                    node: *node,
-                    lower: *lower,
-                    upper: *upper,
-                    answer: 0,
-                };
-                record.fmt(f)
-            }
+            Call::Reading { node, lower, upper } => Reading::new(*node, *lower, *upper).fmt(f),
             Call::Readings { .. } => f.write_str("readings list"),
             Call::AtRest => f.write_str("at rest"),
             Call::Ends { node } => write!(f, "ends of node {node}"),
