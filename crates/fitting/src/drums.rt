@@ -1,7 +1,8 @@
 use balance::cell::Centred;
 use balance::range::Range;
 
-// The worked drum: two nodes, rows [4, 5] [-1, 1] | [8, 10] and [-1, 1] [4, 5] | [-10, -8].
+// The worked drum: two nodes, rows [4, 5] [-1, 1] | [8, 10] and [-1, 1] [4, 5] | [-10, -8]. `limits` writes it again, since a program exports
+// nothing.
 pub const RANGES: [Range; 6] = [
     Range { lower: 4, upper: 5 },
     Range {

@@ -56,7 +56,8 @@ fn probe<S: System>(
     Ok(())
 }
 
-// A key sequence, and whether it was taken. What was made is let go.
+// A key sequence, and whether it was taken. What was made is let go. Each program has its own, as a shared one would be a public call that
+// promises nothing.
 fn tell<T: Drop, E: Display + Drop>(
     rt: &HostRuntime,
     keys: &str,

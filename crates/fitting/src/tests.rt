@@ -3,12 +3,23 @@
 mod at_the_limits {
     use super::super::*;
     use balance::places::every_place_answers;
+    use std::alloc::Global;
     use std::test::Fail;
 
     const LARGE: i64 = 4_398_046_511_104;
 
+    // `limits` has the same: a crate of tests exports nothing.
     fn limit(part: usize, row: usize, column: usize) -> Refusal {
         Refusal::Limit { part, row, column }
+    }
+
+    // What a table with this many nodes and cells is answered with.
+    fn outcome(heap: Global, nodes: usize, cells: usize) -> Result<Result<(), Refusal>, Fail> {
+        Ok(
+            Table::new(nodes, vec![in heap; 1i64; cells]?)
+                .map(drop)
+                .map_err(Refusal::from),
+        )
     }
 
     #[test]
@@ -89,30 +100,11 @@ mod at_the_limits {
     #[test]
     fn tables_have_1_to_32_nodes_and_all_their_cells(rt: HostRuntime) -> Result<(), Fail> {
         let heap = rt.alloc();
-        assert!(rt;
-            Table::new(32, vec![in heap; 1i64; 1056]?)
-                .map(drop)
-                .map_err(Refusal::from)
-                .is_ok()
-        );
-        assert_eq!(rt;
-            Table::new(32, vec![in heap; 1i64; 1055]?)
-                .map(drop)
-                .map_err(Refusal::from),
-            Err(Refusal::Size { place: 0 })
-        );
-        assert_eq!(rt;
-            Table::new(33, vec![in heap; 1i64; 1122]?)
-                .map(drop)
-                .map_err(Refusal::from),
-            Err(Refusal::Size { place: 0 })
-        );
-        assert_eq!(rt;
-            Table::new(0, vec![in heap; 1i64; 0]?)
-                .map(drop)
-                .map_err(Refusal::from),
-            Err(Refusal::Size { place: 0 })
-        );
+        let wrong = Err(Refusal::Size { place: 0 });
+        assert_eq!(rt; outcome(heap, 32, 1056)?, Ok(()));
+        assert_eq!(rt; outcome(heap, 32, 1055)?, wrong);
+        assert_eq!(rt; outcome(heap, 33, 1122)?, wrong);
+        assert_eq!(rt; outcome(heap, 0, 0)?, wrong);
         Ok(())
     }
 
@@ -162,10 +154,9 @@ mod at_the_limits {
         let heap = rt.alloc();
         let mut cells = vec![in heap; 1_048_576i64; 1056]?;
         // By row: the last of its 33 cells is the right side.
-        for row in 0..32usize {
-            let place = row * 33 + 32;
-            if place < cells.len() {
-                cells[place] = LARGE;
+        for row in cells.chunks_mut(33) {
+            if let Some(side) = row.last_mut() {
+                *side = LARGE;
             }
         }
         let drum = Table::new(32, cells)?;
