@@ -27,17 +27,20 @@ impl Model for Bounds {
     ghost invariant = { λ b. (b.count ≤ 32) × (length b.ranges ≡ 32) × AllBetween (2 ^ 30) b.ranges };
 }
 
-// A node's number is asked for with its two limits, here and in the steps: a type that held them would borrow the bounds for a whole step.
-impl Bounds {
-    pub(crate) fn none() -> Bounds
-        ensures { result ≡ [] }
-    {
+// The bounds of no nodes.
+impl Default for Bounds {
+    ghost is_default = { λ b. b ≡ [] };
+
+    fn default() -> Bounds {
         Bounds {
             count: 0,
             ranges: [Range::ZERO; 32],
         }
     }
+}
 
+// A node's number is asked for with its two limits, here and in the steps: a type that held them would borrow the bounds for a whole step.
+impl Bounds {
     // No derive: a clone may fail by its contract, and a copy would have to give back what the view leaves out.
     pub(crate) fn copied(&self) -> Bounds
         ensures { result ≡ self.now }

@@ -216,7 +216,7 @@ impl<'a, S: System> Weighted<'a, S> {
         ensures { result ≡ box_made (S.meaning self.now.system.now) self.now.numbers.now }
     {
         let rows = self.rows()?;
-        let mut bounds = Bounds::none();
+        let mut bounds = Bounds::default();
         for node in 1..=self.numbers.len() {
             bounds.push(self.range(rows.as_slice(), node)?);
         }

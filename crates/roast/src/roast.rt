@@ -27,7 +27,7 @@ impl<S: System> Roast<S> {
     {
         Roast {
             system,
-            bounds: Bounds::none(),
+            bounds: Bounds::default(),
         }
     }
 
