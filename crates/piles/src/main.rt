@@ -186,15 +186,12 @@ fn compare(
     for (i, (range, other)) in drum.iter().zip(order.iter()).enumerate() {
         print!(rt; "  node {}: {range}; node {other} of the table: ", i + 1)?;
         match keyed_in.get(other.saturating_sub(1)) {
-            Some(same) => println!(rt; "{same}, {}", verdict(range == same))?,
+            Some(same) if range == same => println!(rt; "{same}, they agree")?,
+            Some(same) => println!(rt; "{same}, they differ")?,
             None => println!(rt; "none")?,
         }
     }
     Ok(())
-}
-
-fn verdict(agree: bool) -> &'static str {
-    if agree { "they agree" } else { "they differ" }
 }
 
 fn print_piles(rt: &HostRuntime) -> anyhow::Result<()> {
