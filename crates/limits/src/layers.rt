@@ -8,7 +8,8 @@ use std::test::Fail;
 use systems::renumbering::Renumbering;
 use systems::row_scaler::RowScaler;
 
-// What the two-node drum is answered with under these factors.
+// What the two-node drum is answered with under these factors. (The order below and the records of a network differ in the making that is called,
+// and one helper for all would take it as a closure over lists of another kind: no shorter.)
 fn scaler<const N: usize>(heap: Global, factors: [i64; N]) -> Result<Result<(), Refusal>, Fail> {
     let drum = Table::new(2, RANGES.to_vec(heap)?)?;
     Ok(outcome(RowScaler::new(drum, factors.to_vec(heap)?)))

@@ -29,6 +29,7 @@ pub(crate) fn range(lower: i64, upper: i64) -> Range {
     Range { lower, upper }
 }
 
+// The tests of `fitting` have the same: a program exports nothing, nor does a crate of tests.
 pub(crate) fn limit(part: usize, row: usize, column: usize) -> Refusal {
     Refusal::Limit { part, row, column }
 }
