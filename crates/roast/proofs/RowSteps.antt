@@ -13,7 +13,7 @@ use Rattle.balance.specs.Rows as rows
 use Rattle.balance.specs.Rows.{at, found, small, added, sum_of, row_sum}
 use Rattle.balance.proofs.Searches.{coefficient_at, right_side_at}
 use Rattle.roast.specs.Rounding.{holds_zero, quotient, shared}
-use Rattle.roast.specs.Narrowing.{Box, AllBetween, is_told, row_answers, term, numerator, narrowed}
+use Rattle.roast.specs.Narrowing.{Box, HasNode, AllBetween, is_told, row_answers, term, numerator, narrowed}
 use Rattle.roast.proofs.Boxes.{nothing}
 
 -- ---- a box of ranges in order tells itself
@@ -98,11 +98,11 @@ told_if : (p : Place) (r : Range) → Some r ≡ found (answer p) → (is_told p
 told_if (told q) r h = (refl, cc)
 told_if (refused a b c) r h = cc
 
-module _ (m : Meaning) (xs : Box) (i : ℕ) (lower : 1 ≤ i) (upper : i ≤ length xs) (narrow : AllBetween (2 ^ 30) xs) where
+module _ (m : Meaning) (xs : Box) (i : ℕ) (has : HasNode xs i) (narrow : AllBetween (2 ^ 30) xs) where
   answers_is : length xs ≡ m.size → row_answers m xs i ≡ cond (cond (others_told m i m.size) (is_told (m.coefficient i i)) false) (is_told (m.right_side i)) false
   answers_is h =
       let t : eqb (length xs) m.size ≡ true = eq-eqb (length xs) m.size h in
-      rw t (ap (λ b. cond b (is_told (m.right_side i)) false) (every_split (λ j. is_told (m.coefficient i j)) i m.size lower (omega arith)))
+      rw t (ap (λ b. cond b (is_told (m.right_side i)) false) (every_split (λ j. is_told (m.coefficient i j)) i m.size has.0 (omega arith)))
 
   -- a row that does not answer leaves nothing
   no_answer : row_answers m xs i ≡ false → narrowed m xs i ≡ None
@@ -118,7 +118,7 @@ module _ (m : Meaning) (xs : Box) (i : ℕ) (lower : 1 ≤ i) (upper : i ≤ len
 
   pub no_sum : None ≡ row_sum m xs i i → narrowed m xs i ≡ None
   no_sum h = fits
-      (λ e. by e (others_told m i m.size) refl (h ∙ row_plain m xs i (lower, omega arith) narrow e))
+      (λ e. by e (others_told m i m.size) refl (h ∙ row_plain m xs i (has.0, omega arith) narrow e))
       (λ a b. no_answer b)
     where
       by : length xs ≡ m.size → (t : Bool) → others_told m i m.size ≡ t → None ≡ cond t (Some (total (term m xs i) m.size)) None → narrowed m xs i ≡ None
@@ -135,12 +135,12 @@ module _ (m : Meaning) (xs : Box) (i : ℕ) (lower : 1 ≤ i) (upper : i ≤ len
 
     there : There
     there = fits
-        (λ e. by e (others_told m i m.size) refl (s ∙ row_plain m xs i (lower, omega arith) narrow e))
+        (λ e. by e (others_told m i m.size) refl (s ∙ row_plain m xs i (has.0, omega arith) narrow e))
         (λ a k. cc)
       where
         by : length xs ≡ m.size → (t : Bool) → others_told m i m.size ≡ t → Some sum ≡ cond t (Some (total (term m xs i) m.size)) None → There
         by e true f k =
-            let node : IsNode m i = (lower, omega arith) in
+            let node : IsNode m i = (has.0, omega arith) in
             let p = told_if (m.right_side i) side (b ∙ ap found (right_side_at m i node)) in
             let q = told_if (m.coefficient i i) diagonal (d ∙ ap found (coefficient_at m i i node node)) in
             record { answers = answers_is e ∙ ap₂ (λ x y. cond x y false) (ap₂ (λ x y. cond x y false) f q.0) p.0; sum_is = cc; side_is = p.1; diagonal_is = q.1 }

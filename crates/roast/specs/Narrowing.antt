@@ -1,5 +1,5 @@
 -- Row steps, rounds and readings on a box, by the meaning of the system alone.
-use Rattle.std.specs.Prelude.{ℕ, zero, suc, ◌+◌, ◌-◌, Bool, true, false, cond, not, List, length, ℤ, pos, Some, None, Option, ◌==◌, int_le, slice_index_or, slice_set}
+use Rattle.std.specs.Prelude.{ℕ, zero, suc, ◌+◌, ◌-◌, ◌≤◌, Bool, true, false, cond, not, List, length, ℤ, pos, Some, None, Option, ◌==◌, int_le, slice_index_or, slice_set}
 use Rattle.balance.specs.declared.range.Range.{Range}
 use Rattle.balance.specs.Ranges.{only, Between, minus, times, total}
 use Rattle.balance.specs.Meanings.{Place, told, refused, Meaning, coefficient_range, right_side_range}
@@ -10,6 +10,10 @@ use Rattle.roast.specs.Rounding.{holds_zero, quotient, shared}
 -- a range for each node, node 1 first
 abbrev pub Box : Type 0
 Box = List Range
+
+-- i is one of the nodes of the box
+abbrev pub HasNode : Box → ℕ → Type 0
+HasNode box i = (1 ≤ i) × (i ≤ length box)
 
 -- each range in order, and no end beyond ±limit
 abbrev pub AllBetween : ℕ → Box → Type 0

@@ -1,7 +1,7 @@
-ghost use Rattle.std.specs.Prelude.{◌≡◌, ◌-◌, ◌+◌, ◌^◌, ◌<◌, ◌≤◌, [], ◌∷◌, ◌++◌, length, slice_set};
+ghost use Rattle.std.specs.Prelude.{◌≡◌, ◌-◌, ◌+◌, ◌^◌, ◌<◌, [], ◌∷◌, ◌++◌, length, slice_set};
 ghost use Rattle.balance.specs.Ranges.{Between};
 ghost use Rattle.balance.specs.Rows.{at};
-ghost use Rattle.roast.specs.Narrowing.{AllBetween};
+ghost use Rattle.roast.specs.Narrowing.{HasNode, AllBetween};
 
 use balance::range::Range;
 use std::marker::Model;
@@ -39,7 +39,8 @@ impl Default for Bounds {
     }
 }
 
-// A node's number is asked for with its two limits, here and in the steps: a type that held them would borrow the bounds for a whole step.
+// A node is asked for as one of the bounds, here and in the steps: a type that held it would borrow the bounds for a whole step. Ranges come in
+// plain and go out so, with their limit beside: a type for a narrow range would be opened again in each function.
 impl Bounds {
     // No derive: a clone may fail by its contract, and a copy would have to give back what the view leaves out.
     pub(crate) fn copied(&self) -> Bounds
@@ -58,15 +59,14 @@ impl Bounds {
     }
 
     pub(crate) fn at(&self, node: usize) -> Range
-        requires some { 1 ≤ node }
-        requires there { node ≤ length self.now }
+        requires has_the_node { HasNode self.now node }
         ensures is { result ≡ at self.now node }
         ensures narrow { Between (2 ^ 30) result }
     {
         self.all()[node - 1]
     }
 
-    // All ranges, node 1 first.
+    // All ranges, node 1 first. The limit is told of all at once too, for the sum of a row.
     pub(crate) fn all(&self) -> &[Range]
         ensures is { result.now ≡ self.now }
         ensures narrow { AllBetween (2 ^ 30) self.now }
@@ -75,8 +75,7 @@ impl Bounds {
     }
 
     pub(crate) fn put(&mut self, node: usize, range: Range)
-        requires some { 1 ≤ node }
-        requires there { node ≤ length self.old }
+        requires has_the_node { HasNode self.old node }
         requires narrow { Between (2 ^ 30) range }
         ensures { self.new ≡ slice_set self.old (node - 1) range }
     {

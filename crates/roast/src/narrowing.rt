@@ -1,8 +1,8 @@
 // Row steps, rounds and readings on the bounds of a roast, each equal to the reference machine's.
-ghost use Rattle.std.specs.Prelude.{◌≡◌, ◌^◌, ◌≤◌, [], length, IfSome};
+ghost use Rattle.std.specs.Prelude.{◌≡◌, ◌^◌, [], IfSome};
 ghost use Rattle.balance.specs.Ranges.{Between};
 ghost use Rattle.roast.specs.declared.call.Answer.TheVariants.{Changed, Changes};
-ghost use Rattle.roast.specs.Narrowing.{narrowed, take as step, row_step, rests};
+ghost use Rattle.roast.specs.Narrowing.{HasNode, narrowed, take as step, row_step, rests};
 ghost use Rattle.roast.specs.Machine.{step_outcome, outcome, round, reading_outcome, readings_outcome, mark};
 ghost use Rattle.roast.specs.Answers.{as_answer};
 
@@ -17,8 +17,7 @@ use balance::system::{System, check_node};
 impl Bounds {
     // What a row leaves of its node's range.
     fn narrowed<S: System>(&self, system: &S, node: usize) -> Option<Range>
-        requires some { 1 ≤ node }
-        requires there { node ≤ length self.now }
+        requires has_the_node { HasNode self.now node }
         ensures is { result ≡ narrowed (S.meaning system.now) self.now node }
         ensures narrow { IfSome result (Between (2 ^ 30)) }
     {
@@ -34,8 +33,7 @@ impl Bounds {
 
     // Gives the node a range, where there is one, and says whether that changed it.
     fn accept(&mut self, node: usize, range: Option<Range>) -> Result<bool, Refusal>
-        requires some { 1 ≤ node }
-        requires there { node ≤ length self.old }
+        requires has_the_node { HasNode self.old node }
         requires narrow { IfSome range (Between (2 ^ 30)) }
         ensures answers { as_answer Changed result ≡ (step_outcome self.old (step self.old node range)).answer }
         ensures leaves { self.new ≡ (step_outcome self.old (step self.old node range)).box }
@@ -48,8 +46,7 @@ impl Bounds {
 
     // Narrows a node's range by its row, and says whether that changed it.
     pub(crate) fn step_row<S: System>(&mut self, system: &S, node: usize) -> Result<bool, Refusal>
-        requires some { 1 ≤ node }
-        requires there { node ≤ length self.old }
+        requires has_the_node { HasNode self.old node }
         ensures answers { as_answer Changed result ≡ (step_outcome self.old (row_step (S.meaning system.now) self.old node)).answer }
         ensures leaves { self.new ≡ (step_outcome self.old (row_step (S.meaning system.now) self.old node)).box }
     {
@@ -59,8 +56,7 @@ impl Bounds {
 
     // Whether the row step of a node would be accepted and change nothing.
     pub(crate) fn rests<S: System>(&self, system: &S, node: usize) -> bool
-        requires some { 1 ≤ node }
-        requires there { node ≤ length self.now }
+        requires has_the_node { HasNode self.now node }
         ensures { result ≡ rests (row_step (S.meaning system.now) self.now node) }
     {
         self.narrowed(system, node) == Some(self.at(node))

@@ -14,7 +14,7 @@ returns-in_err-sum-clause-is g c =
     let i = c.args.node in
     let narrow = c.all.ensures.narrow in
     let none = c.in_err-sum.ensures.is_the_sum_where_all_answer ∙ row_told m x _ i c.all.ensures.is narrow in
-    c.from_residual.ensures ∙ sym (no_sum m x i c.requires.some c.requires.there narrow none)
+    c.from_residual.ensures ∙ sym (no_sum m x i c.requires.has_the_node narrow none)
 
 pub returns-in_err-numerator : goal.returns-in_err-numerator
 returns-in_err-numerator g c =
@@ -37,7 +37,7 @@ returns g c =
     let narrow = c.all.ensures.narrow in
     let sum = c.in_ok-sum.ensures.is_the_sum_where_all_answer ∙ row_told m x _ i c.all.ensures.is narrow in
     let diagonal = c.in_ok-diagonal.diagonal in
-    let f = leaves m x i c.requires.some c.requires.there narrow c.in_ok-sum.sum c.in_ok-side.side diagonal sum c.in_ok-side.ensures.is_the_range_where_it_answers c.in_ok-diagonal.ensures.is_the_range_where_it_answers (sym c.if-contains.ensures.is) in
+    let f = leaves m x i c.requires.has_the_node narrow c.in_ok-sum.sum c.in_ok-side.side diagonal sum c.in_ok-side.ensures.is_the_range_where_it_answers c.in_ok-diagonal.ensures.is_the_range_where_it_answers (sym c.if-contains.ensures.is) in
     let q = c.quotient.ensures.is ∙ ap (λ (n : Range). quotient n diagonal) c.in_ok-numerator.ensures.is_the_difference_where_it_fits.1 in
     record {
       is = c.shared.ensures.is ∙ (λ k. shared (c.at.ensures.is k) (q k)) ∙ sym f;
