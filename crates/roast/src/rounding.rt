@@ -5,6 +5,8 @@ ghost use Rattle.roast.specs.Rounding.{holds_zero, floor, ceiling, negated, quot
 
 use balance::range::Range;
 
+// Signed floor and ceiling division, by the rule on the form of rounding. (That a numerator can be negated is asked for in all that divides: a
+// type for such a range would be opened again in each.)
 fn floor(m: i64, d: i64) -> i64
     requires { pos 0 <ℤ d }
     ensures { result ≡ floor m d }
@@ -34,6 +36,7 @@ fn quotient_above(m: Range, d: Range) -> Range
     }
 }
 
+// By hand: as a difference from zero by `Range::checked_sub` it would be an `Option` that is always told.
 fn negated(a: Range) -> Range
     requires { Between (2 ^ 63 - 1) a }
     ensures { result ≡ negated a }
