@@ -2,7 +2,7 @@
 use Rattle.std.proofs.Common.{◌≡◌, ℕ, zero, suc, ◌+◌, ◌*◌, ◌<◌, ◌≤◌, List, [], ◌∷◌, ◌++◌, length, get_or, ℤ, pos, ◌-ℤ◌, ◌*ℤ◌, neg_ℤ, nat_abs, ◌≤ℤ◌, ap, ◌∙◌, ap₂, mul-le-mul_left, le_of_mul-le-mul_right, arith}
 use borrow.Author.Differences.{ints, neg_is}
 use Rattle.balance.specs.declared.range.Range.{Range}
-use Rattle.balance.specs.Ranges.{range, Ordered}
+use Rattle.balance.specs.Ranges.{limits, Ordered}
 use Rattle.balance.specs.Meanings.{Meaning, IsNode, Same, Lawful, range_at, coefficient_range, right_side_range}
 use Rattle.balance.specs.Members.{Fraction, Member, Point, component, sum, Solves, SamePoint, ◌⊗◌}
 use Rattle.std.proofs.lemmas.Int.{unsigned_abs-mul}
@@ -150,4 +150,4 @@ module _ (m m' : Meaning) (same : Same m m') (us : List ℤ) where
   k_same i = largest_same _ _ m.size (λ j p. ap₂ (λ a x. rounded_up (u us i * magnitude (range_at a)) (nat_abs x)) (same.right_sides j p) (v_same j p)) ∙ ap (largest (λ j. rounded_up (u us i * magnitude (right_side_range m' j)) (nat_abs (v m' us j)))) same.sizes
 
   pub first_same : first_box m us ≡ first_box m' us
-  first_same = listed_same _ _ m.size (λ i p. ap (λ x. range (neg_ℤ (pos x)) (pos x)) (k_same i)) ∙ ap (listed (first_range m' us)) same.sizes
+  first_same = listed_same _ _ m.size (λ i p. ap limits (k_same i)) ∙ ap (listed (first_range m' us)) same.sizes

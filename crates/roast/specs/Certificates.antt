@@ -1,9 +1,9 @@
 -- The test of a certificate, and the first box.
-use Rattle.std.specs.Prelude.{◌≡◌, ℕ, zero, suc, ◌+◌, ◌-◌, ◌*◌, ◌/◌, ◌^◌, ◌≤◌, max, cond, List, [], ◌∷◌, ◌++◌, length, ℤ, pos, ◌-ℤ◌, neg_ℤ, ◌≤ℤ◌, Some, None, Ok, Err, Option, Result, ◌==◌, int_le, int_lt, nat_le, slice_index_or, unsigned_abs}
+use Rattle.std.specs.Prelude.{◌≡◌, ℕ, zero, suc, ◌+◌, ◌-◌, ◌*◌, ◌/◌, ◌^◌, ◌≤◌, max, cond, List, [], ◌∷◌, ◌++◌, length, ℤ, pos, ◌-ℤ◌, ◌≤ℤ◌, Some, None, Ok, Err, Option, Result, ◌==◌, int_le, int_lt, nat_le, slice_index_or, unsigned_abs}
 use Rattle.balance.specs.declared.range.Range.{Range}
 use Rattle.balance.specs.declared.refusal.Refusal.{Refusal}
 use Rattle.balance.specs.declared.refusal.Refusal.TheVariants.{Certificate, Dominance, Wide}
-use Rattle.balance.specs.Ranges.{range}
+use Rattle.balance.specs.Ranges.{limits}
 use Rattle.balance.specs.Meanings.{Meaning, IsNode, EveryPlaceAnswers, coefficient_range, right_side_range}
 use Rattle.balance.specs.Places.{first, unless_refused, first_refusal}
 use Rattle.balance.specs.Points.{between}
@@ -68,7 +68,7 @@ listed f (suc n) = listed f n ++ f (suc n) ∷ []
 
 -- ±k_i
 abbrev pub first_range : Meaning → List ℤ → ℕ → Range
-first_range m us i = range (neg_ℤ (pos (k m us i))) (pos (k m us i))
+first_range m us i = limits (k m us i)
 
 abbrev pub first_box : Meaning → List ℤ → List Range
 first_box m us = listed (first_range m us) m.size

@@ -23,7 +23,8 @@ const NUMBERS: Range = Range {
 // No end of the first box lies beyond ±2^30.
 const END_LIMIT: u64 = 1_073_741_824;
 
-// Refuses a certificate of another length, or with a number that is not allowed.
+// Refuses a certificate of another length, or with a number that is not allowed. (The numerators of a point and the list of a layer are refused in
+// the same order, each with a case and a limit of its own; what is alike is `first_outside`.)
 pub(crate) fn check_certificate(size: usize, certificate: &[i64]) -> Result<(), Refusal>
     ensures { result ≡ unless_refused (certificate_refusal size certificate.now) (Ok tt) }
 {
@@ -77,7 +78,7 @@ fn coefficient<S: System>(system: &S, row: usize, column: usize) -> Range
     coefficient_range(system, row, column).unwrap_or_default()
 }
 
-// A right side's range; [0, 0] where its place is refused.
+// A right side's range; [0, 0] where its place is refused. (The two questions of the interface take other parameters.)
 fn right_side<S: System>(system: &S, row: usize) -> Range
     requires { IsNode (S.meaning system.now) row }
     ensures is { result ≡ right_side_range (S.meaning system.now) row }
@@ -113,8 +114,8 @@ fn largest_end(number: u64, rows: &[Row]) -> u64
     rows.iter().map(|row| row.end(number)).fold(0, u64::max)
 }
 
-// ±k.
-fn first_range(end: u64) -> Range
+// ±end.
+fn limits(end: u64) -> Range
     requires { end ≤ 2 ^ 30 }
     ensures { result ≡ limits end }
 {
@@ -208,7 +209,7 @@ impl<'a, S: System> Weighted<'a, S> {
         if END_LIMIT < end {
             return Err(Refusal::Wide { place: node });
         }
-        Ok(first_range(end))
+        Ok(limits(end))
     }
 
     // The ranges of all nodes, or the first row that is not dominated, or else the first node whose range is too wide.

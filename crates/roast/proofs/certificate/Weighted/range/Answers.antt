@@ -15,4 +15,4 @@ returns-then-end-gt-END_LIMIT g c =
 pub returns : goal.returns
 returns g c =
     let w = c.args.self.now in
-    ap Ok c.first_range.ensures ∙ range_taken (g.S.System.meaning w.system.now) w.numbers.now c.args.rows.now c.requires.all_rows c.number.result c.args.node c.largest_end-end.result c.number.ensures.is c.largest_end-end.ensures c.if-end-gt-END_LIMIT.false
+    ap Ok c.limits.ensures ∙ range_taken (g.S.System.meaning w.system.now) w.numbers.now c.args.rows.now c.requires.all_rows c.number.result c.args.node c.largest_end-end.result c.number.ensures.is c.largest_end-end.ensures c.if-end-gt-END_LIMIT.false
