@@ -7,7 +7,8 @@ use balance::refusal::Refusal;
 use std::fmt;
 
 // One reading of a list: a node and a range, and 0 or the number of its refusal once it was taken.
-// A byte, by the rule that the call writes this number into the record in place.
+// The number is a byte, by the rule that the call writes it into the record in place. The two ends stand apart, here and in the calls, as a recorder
+// sends them: a record is four fields in place, and crossed ends are refused by the call.
 #[derive(Clone, Copy, PartialEq, Eq, Debug)]
 pub struct Reading {
     pub node: usize,

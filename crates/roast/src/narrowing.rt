@@ -102,7 +102,7 @@ impl Bounds {
     }
 }
 
-// 0, or the number of the refusal.
+// 0, or the number of the refusal: a byte, as the record holds it and users see it.
 fn mark(answer: Result<bool, Refusal>) -> u8
     ensures { result ≡ mark answer }
 {

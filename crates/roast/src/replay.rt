@@ -9,7 +9,8 @@ use super::roast::Roast;
 use balance::refusal::Refusal;
 use balance::system::System;
 
-// Makes a call. The kinds of call are a closed list, and the main promise speaks of lists of them as values.
+// Makes a call. The kinds of call are a closed list, and the main promise speaks of lists of them as values: clauses see which it is. (`same`, here
+// and below, relates what was to what is, which no invariant of a value can say.)
 fn play<S: System>(roast: &mut Roast<S>, call: &mut Call) -> Result<Answer, Refusal>
     ensures answers { result ≡ (outcome (S.meaning roast.old.system) roast.old.bounds (asked call.old)).answer }
     ensures leaves { roast.new.bounds ≡ (outcome (S.meaning roast.old.system) roast.old.bounds (asked call.old)).box }
