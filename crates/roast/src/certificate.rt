@@ -198,7 +198,8 @@ impl<'a, S: System> Weighted<'a, S> {
         Ok(rows)
     }
 
-    // A node's first range ±k, where it is not too wide.
+    // A node's first range ±k, where it is not too wide. (What it asks of the rows it asks alone: a struct that held them with these two facts would be
+    // made and opened once.)
     fn range(&self, rows: &[Row], node: usize) -> Result<Range, Refusal>
         requires node { IsNode (S.meaning self.now.system.now) node }
         requires dominant { first (dominance_refusal (S.meaning self.now.system.now) self.now.numbers.now) (S.meaning self.now.system.now).size ≡ None }
