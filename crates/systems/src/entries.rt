@@ -1,8 +1,8 @@
-ghost use Rattle.std.specs.Prelude.{◌≡◌, ℕ, ◌+◌, ◌<◌, Bool, Ok};
+ghost use Rattle.std.specs.Prelude.{◌≡◌, ℕ, ◌+◌, ◌<◌, Bool, Ok, Err};
 ghost use Rattle.balance.specs.Places.{unless_refused};
 ghost use Rattle.systems.specs.Entries.{entries_refusal};
 
-use balance::refusal::Refusal;
+use balance::refusal::{Refusal, Returned};
 
 // Refuses another count than the system's size, then the first entry that is not allowed. Entries are asked for from 0.
 pub(crate) fn check_entries<F: Fn(usize) -> bool>(
@@ -23,4 +23,15 @@ pub(crate) fn check_entries<F: Fn(usize) -> bool>(
         }
     }
     Ok(())
+}
+
+// A value that passed its check; else the refusal, and the value back.
+pub(crate) fn kept<T>(checked: Result<(), Refusal>, value: T) -> Result<T, Returned<T>>
+    ensures kept_exactly_when_it_passed { elim result [ Ok v ↦ checked ≡ Ok tt | Err e ↦ checked ≡ Err e.refusal ] }
+    ensures hands_back_the_value { elim result [ Ok v ↦ v ≡ value | Err e ↦ e.value ≡ value ] }
+{
+    match checked {
+        Ok(()) => Ok(value),
+        Err(refusal) => Err(Returned { refusal, value }),
+    }
 }

@@ -4,6 +4,7 @@ ghost use Rattle.balance.specs.Places.{unless_refused};
 ghost use Rattle.systems.specs.Networks.{ends_in_order, ends_within, record_refusal, network_refusal, additions, sum_at, Small, network_sum, network};
 ghost use Rattle.systems.specs.NetworksLemmas.{accepted, network_lawful};
 
+use super::entries::kept;
 use super::record::{Addition, Record};
 use balance::range::Range;
 use balance::refusal::{Refusal, Returned};
@@ -113,19 +114,13 @@ pub struct Network {
 }
 
 impl Network {
-    // The first record that is not allowed is refused by its number, and the records come back. (The makings of systems hand back other values:
-    // one for all would take a closure for each arm.)
+    // The first record that is not allowed is refused by its number, and the records come back.
     pub fn new(size: usize, records: Vec<Record>) -> Result<Network, Returned<Vec<Record>>>
         ensures made_exactly_when_every_record_is_taken { elim result [ Ok t ↦ network_refusal size records.items ≡ None | Err e ↦ network_refusal size records.items ≡ Some e.refusal ] }
         ensures holds_the_records { elim result [ Ok t ↦ (t.size ≡ size) × (t.records ≡ records) | Err e ↦ e.value ≡ records ] }
     {
-        match check_records(size, &records) {
-            Ok(()) => Ok(Network { size, records }),
-            Err(refusal) => Err(Returned {
-                refusal,
-                value: records,
-            }),
-        }
+        let records = kept(check_records(size, &records), records)?;
+        Ok(Network { size, records })
     }
 
     // What all records add at a place; column n + 1 is the right side.

@@ -5,7 +5,7 @@ ghost use Rattle.balance.specs.Places.{unless_refused};
 ghost use Rattle.systems.specs.Renumberings.{entry_at, renumbered, order_refusal, IsPermutation, RenumbersSolutions};
 ghost use Rattle.systems.specs.RenumberingsLemmas.{renumbered_lawful};
 
-use super::entries::check_entries;
+use super::entries::{check_entries, kept};
 use balance::refusal::{Refusal, Returned};
 use balance::system::{System, check_node, is_node};
 
@@ -45,13 +45,9 @@ impl<S: System> Renumbering<S> {
         ensures holds_the_system_and_the_order { elim result [ Ok l ↦ (l.system ≡ system) × (l.order ≡ order) | Err e ↦ e.value ≡ (system, order) ] }
         ensures renumbers_the_solutions { elim result [ Ok l ↦ RenumbersSolutions order.items (S.meaning system) | Err e ↦ Unit {0} ] }
     {
-        match check_order(system.size(), &order) {
-            Ok(()) => Ok(Renumbering { system, order }),
-            Err(refusal) => Err(Returned {
-                refusal,
-                value: (system, order),
-            }),
-        }
+        let checked = check_order(system.size(), &order);
+        let (system, order) = kept(checked, (system, order))?;
+        Ok(Renumbering { system, order })
     }
 
     // The node below.

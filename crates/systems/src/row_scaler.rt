@@ -5,7 +5,7 @@ ghost use Rattle.balance.specs.Places.{unless_refused};
 ghost use Rattle.systems.specs.RowScalers.{scaled, factor_at, row_scaled, factor_allowed, factors_refusal, KeepsSolutions};
 ghost use Rattle.systems.specs.RowScalersLemmas.{scaled_lawful};
 
-use super::entries::check_entries;
+use super::entries::{check_entries, kept};
 use balance::range::Range;
 use balance::refusal::{Refusal, Returned};
 use balance::system::{COEFFICIENTS, RIGHT_SIDES, System, limited};
@@ -70,13 +70,9 @@ impl<S: System> RowScaler<S> {
         ensures holds_the_system_and_the_factors { elim result [ Ok l ↦ (l.system ≡ system) × (l.factors ≡ factors) | Err e ↦ e.value ≡ (system, factors) ] }
         ensures keeps_the_solutions { elim result [ Ok l ↦ KeepsSolutions (S.meaning system) (row_scaled factors.items (S.meaning system)) | Err e ↦ Unit {0} ] }
     {
-        match check_factors(system.size(), &factors) {
-            Ok(()) => Ok(RowScaler { system, factors }),
-            Err(refusal) => Err(Returned {
-                refusal,
-                value: (system, factors),
-            }),
-        }
+        let checked = check_factors(system.size(), &factors);
+        let (system, factors) = kept(checked, (system, factors))?;
+        Ok(RowScaler { system, factors })
     }
 
     fn factor(&self, row: usize) -> i64

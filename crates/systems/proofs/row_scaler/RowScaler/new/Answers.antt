@@ -4,9 +4,9 @@ use Rattle.systems.specs.RowScalers.{factors_refusal}
 use Rattle.systems.specs.RowScalersLemmas.{keeps_solutions}
 use Rattle.systems.proofs.row_scaler.RowScaler.new.Goals as goal
 
-pub returns-in-Ok-clause-keeps_the_solutions : goal.returns-in-Ok-clause-keeps_the_solutions
-returns-in-Ok-clause-keeps_the_solutions g c =
+pub returns-clause-keeps_the_solutions : goal.returns-clause-keeps_the_solutions
+returns-clause-keeps_the_solutions g c =
     let m = g.S.System.meaning c.args.system in
     let fs = vec_items c.args.factors in
-    let none : factors_refusal m.size fs ≡ None = (λ i. factors_refusal (sym c.size.ensures.is_the_size i) (sym c.deref.ensures.value i)) ∙ unrefused _ c.in-Ok.ensures in
+    let none : factors_refusal m.size fs ≡ None = (λ i. factors_refusal (sym c.size.ensures.is_the_size i) (sym c.deref.ensures.value i)) ∙ unrefused _ (sym c.in_ok-system.ensures.kept_exactly_when_it_passed ∙ c.check_factors-checked.ensures) in
     keeps_solutions m (g.met.S.System.lawful c.args.system) fs none
