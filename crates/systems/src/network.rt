@@ -10,9 +10,6 @@ use balance::range::Range;
 use balance::refusal::{Refusal, Returned};
 use balance::system::{COEFFICIENTS, RIGHT_SIDES, System, check_node, limited};
 
-// The network's part number, which refusals of its records name too.
-const NETWORK_PART: usize = 2;
-
 // A wrong node comes before crossed ends, and these before an end beyond its limits.
 fn check_record(size: usize, number: usize, record: &Record) -> Result<(), Refusal>
     ensures { result ≡ unless_refused (record_refusal size number «record».now) (Ok tt) }
@@ -25,7 +22,7 @@ fn check_record(size: usize, number: usize, record: &Record) -> Result<(), Refus
     }
     if !record.is_within_limits() {
         return Err(Refusal::Limit {
-            part: NETWORK_PART,
+            part: Network::PART,
             row: number,
             column: 0,
         });
@@ -139,12 +136,13 @@ impl Network {
         ensures { result ≡ answer (placed limits 2 row column (network_sum self.now.size self.now.records.items row column)) }
     {
         let sum = self.sum_at(row, column).unwrap_or_default();
-        limited(sum, limits, NETWORK_PART, row, column)
+        limited(sum, limits, Network::PART, row, column)
     }
 }
 
 impl System for Network {
-    const PART: usize = NETWORK_PART;
+    // The part that refusals of records name too.
+    const PART: usize = 2;
 
     ghost meaning = { λ t. network t.size t.records.items };
 
