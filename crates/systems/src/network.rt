@@ -63,6 +63,7 @@ fn added(size: usize, record: &Record, row: usize, column: usize) -> Option<Rang
     requires few_nodes { size ≤ 32 }
     ensures { result ≡ Some (sum_at row column (additions size «record».now)) }
 {
+    // Matched, as the sorts are a closed list: closures or `dyn` would hide from the contract which sort it is.
     match *record {
         Record::Link {
             first,

@@ -28,7 +28,8 @@ fn in_order(range: Range) -> bool
     range.lower <= range.upper
 }
 
-// One record of a network, of a closed list of sorts. Conductances are in mW/K, temperatures in millidegrees Celsius, heats in µW.
+// One record of a network. Conductances are in mW/K, temperatures in millidegrees Celsius, heats in µW.
+// The sorts are a closed list, so each question matches them: closures or `dyn` would hide from clauses which sort a record is.
 #[derive(Clone, Copy, PartialEq, Eq, Debug)]
 pub enum Record {
     // heat flows between two nodes, by the difference of their temperatures
