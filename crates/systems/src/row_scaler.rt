@@ -26,22 +26,15 @@ fn check_factors(size: usize, factors: &[i64]) -> Result<(), Refusal>
     check_entries(size, factors.len(), |k| factor_allowed(factors[k]))
 }
 
-fn product(end: i64, factor: i64) -> i64
-    requires end_keeps_the_limit { unsigned_abs end ≤ 2 ^ 42 }
-    requires factor_keeps_the_limit { unsigned_abs factor ≤ 1024 }
-    ensures { result ≡ end *ℤ factor }
-{
-    end * factor
-}
-
-// A range times a factor; a negative one exchanges the ends.
+// A range times a factor; a negative one exchanges the ends. By `Range::checked_mul` the exchange would be hidden among four products, in an `Option`
+// that is always told.
 fn scaled(range: Range, factor: i64) -> Range
     requires range_keeps_the_limit { Between (2 ^ 42) range }
     requires factor_keeps_the_limit { unsigned_abs factor ≤ 1024 }
     ensures { result ≡ scaled factor range }
 {
-    let by_lower = product(range.lower, factor);
-    let by_upper = product(range.upper, factor);
+    let by_lower = range.lower * factor;
+    let by_upper = range.upper * factor;
     if factor < 0 {
         Range {
             lower: by_upper,

@@ -1,0 +1,10 @@
+use Rattle.std.proofs.Common.{arith}
+use Rattle.std.proofs.lemmas.Int.{ints, to_z-of_z}
+use Rattle.systems.specs.RowScalersLemmas.{product_held}
+use Rattle.systems.proofs.row_scaler.scaled.Goals as goal
+
+pub returns-then-factor-lt0 : goal.returns-then-factor-lt0
+returns-then-factor-lt0 c = grind (arith, ints, to_z-of_z, product_held)
+
+pub returns-else-factor-lt0 : goal.returns-else-factor-lt0
+returns-else-factor-lt0 c = grind (arith, ints, to_z-of_z, product_held)
