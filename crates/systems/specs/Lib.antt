@@ -4,7 +4,6 @@ pub mod RowScalers
 pub mod Renumberings
 pub mod NetworksLemmas
 pub mod EntriesLemmas
-pub mod Places
 pub mod Sums
 pub mod RenumberingsLemmas
 pub mod Permutations

@@ -1,13 +1,13 @@
 -- Rows that are multiplied by factors: which factors are taken, and that the solutions stay.
-use Rattle.std.specs.Prelude.{◌≡◌, ℕ, ◌+◌, ◌-◌, ◌^◌, ◌≤◌, Bool, true, false, cond, ◌↔◌, List, length, ℤ, pos, ◌*ℤ◌, neg_ℤ, Some, None, Ok, Option, int_le, nat_eq, unsigned_abs, refl}
+use Rattle.std.specs.Prelude.{◌≡◌, ℕ, ◌+◌, ◌-◌, ◌^◌, ◌≤◌, Bool, true, false, cond, ◌↔◌, List, length, ℤ, pos, ◌*ℤ◌, neg_ℤ, Some, None, Option, int_le, nat_eq, unsigned_abs, refl}
 use Rattle.std.proofs.Common.{slice_index_or, arith, sym, ap, ◌∙◌, to_z, of_z}
 use Rattle.std.proofs.lemmas.Int.{ints, to_z-of_z}
 use Rattle.std.specs.Int.{w64}
 use Rattle.std.proofs.lemmas.Bool.{eq-eqb}
 use Rattle.std.proofs.lemmas.Bool.Decides.{nat_tests}
 use Rattle.balance.specs.declared.range.Range.{Range}
-use Rattle.balance.specs.Ranges.{range, only, times, meets}
-use Rattle.balance.specs.Meanings.{Place, told, refused, Meaning, IsNode, Within, Lawful, Told, EveryPlaceAnswers, range_at, is_node, answer, coefficient_answer, right_side_answer, limited}
+use Rattle.balance.specs.Ranges.{only, times, meets}
+use Rattle.balance.specs.Meanings.{Place, told, refused, Meaning, IsNode, Within, Lawful, Told, EveryPlaceAnswers, range_at, limited}
 use Rattle.balance.specs.Members.{Point}
 use Rattle.balance.specs.Points.{row, fits, Possible}
 use Rattle.balance.proofs.Integers.{product_within}
@@ -15,7 +15,6 @@ use Rattle.balance.proofs.Points.{solution_fits, fits_solution}
 use Rattle.balance.specs.TablesLemmas.{limited_within}
 use Rattle.systems.specs.RowScalers.{scaled, scaled_place, factor_at, row_factor, factor_allowed, factors_refusal, row_scaled, KeepsSolutions}
 use Rattle.systems.specs.Scaling.{scaled_ordered, scaled_total, scaled_times, scaled_meets}
-use Rattle.systems.specs.Places.{behind, told_behind}
 use Rattle.systems.specs.EntriesLemmas.{taken}
 
 -- ---- the factors that are taken
@@ -51,19 +50,6 @@ pub product_held : (x f : ℤ) → unsigned_abs x ≤ 2 ^ 42 → unsigned_abs f 
 product_held x f h k =
     let b = product_within x f (2 ^ 42) 1024 h k in
     (λ i. to_z w64 (of_z w64 (to_z-of_z w64 x (omega (arith, ints)) i *ℤ to_z-of_z w64 f (omega (arith, ints)) i))) ∙ to_z-of_z w64 (x *ℤ f) (omega (arith, ints))
-
--- ---- answers
-
--- what the layer makes of an answer from below
-scaled_behind : (limit i j row column : ℕ) (s t : Bool) (p : Place) (o : Option ℤ) (f : ℤ) (ends : ℤ × ℤ) → Ok ends ≡ behind s t i j p → o ≡ Some f → answer (limited limit 3 row column (scaled f (range ends.0 ends.1))) ≡ behind s t i j (scaled_place limit row column o p)
-scaled_behind limit i j row column s t p o f ends h e = let b = told_behind s t i j p ends.0 ends.1 h in rw (b.0, b.1, b.2, e)
-
-module _ (m : Meaning) (fs : List ℤ) (count : length fs ≡ m.size) (ends : ℤ × ℤ) where
-  pub scaled_coefficient : (i j : ℕ) → Ok ends ≡ coefficient_answer m i j → answer (limited (2 ^ 20) 3 i j (scaled (factor_at fs i) (range ends.0 ends.1))) ≡ coefficient_answer (row_scaled fs m) i j
-  scaled_coefficient i j h = scaled_behind (2 ^ 20) i j i j (is_node m.size i) (is_node m.size j) (m.coefficient i j) (row_factor fs m.size i) (factor_at fs i) ends h (row_factor_is m.size fs i count)
-
-  pub scaled_right_side : (i : ℕ) → Ok ends ≡ right_side_answer m i → answer (limited (2 ^ 42) 3 i (m.size + 1) (scaled (factor_at fs i) (range ends.0 ends.1))) ≡ right_side_answer (row_scaled fs m) i
-  scaled_right_side i h = scaled_behind (2 ^ 42) i i i (m.size + 1) (is_node m.size i) true (m.right_side i) (row_factor fs m.size i) (factor_at fs i) ends h (row_factor_is m.size fs i count)
 
 -- ---- the law of systems
 

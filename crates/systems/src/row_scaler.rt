@@ -1,6 +1,6 @@
-ghost use Rattle.std.specs.Prelude.{◌≡◌, ◌^◌, ◌≤◌, ◌*ℤ◌, Some, None, Ok, Err, unsigned_abs};
-ghost use Rattle.balance.specs.Ranges.{Between};
-ghost use Rattle.balance.specs.Meanings.{IsNode};
+ghost use Rattle.std.specs.Prelude.{◌≡◌, ◌^◌, ◌≤◌, Some, None, Ok, Err, unsigned_abs};
+ghost use Rattle.balance.specs.Ranges.{range, Between};
+ghost use Rattle.balance.specs.Meanings.{IsNode, answer, placed};
 ghost use Rattle.balance.specs.Places.{unless_refused};
 ghost use Rattle.systems.specs.RowScalers.{scaled, factor_at, row_scaled, factor_allowed, factors_refusal, KeepsSolutions};
 ghost use Rattle.systems.specs.RowScalersLemmas.{scaled_lawful};
@@ -75,6 +75,22 @@ impl<S: System> RowScaler<S> {
     {
         self.factors[row - 1]
     }
+
+    // Ends from below times the factor of their row, as an answer, or the refusal of the place.
+    fn answer(
+        &self,
+        ends: (i64, i64),
+        limits: Range,
+        row: usize,
+        column: usize,
+    ) -> Result<(i64, i64), Refusal>
+        requires row_is_a_node { IsNode (S.meaning self.now.system) row }
+        requires ends_keep_the_limit { Between (2 ^ 42) (range ends.0 ends.1) }
+        ensures { result ≡ answer (placed limits 3 row column (scaled (factor_at self.now.factors.items row) (range ends.0 ends.1))) }
+    {
+        let range = scaled(ends.into(), self.factor(row));
+        limited(range, limits, ROW_SCALER_PART, row, column)
+    }
 }
 
 impl<S: System> System for RowScaler<S> {
@@ -88,27 +104,13 @@ impl<S: System> System for RowScaler<S> {
         self.system.size()
     }
 
-    // The two questions stay apart: they ask below by other parameters and keep other limits.
     fn coefficient(&self, row: usize, column: usize) -> Result<(i64, i64), Refusal> {
-        let range = Range::from(self.system.coefficient(row, column)?);
-        limited(
-            scaled(range, self.factor(row)),
-            COEFFICIENTS,
-            ROW_SCALER_PART,
-            row,
-            column,
-        )
+        let ends = self.system.coefficient(row, column)?;
+        self.answer(ends, COEFFICIENTS, row, column)
     }
 
     fn right_side(&self, row: usize) -> Result<(i64, i64), Refusal> {
-        let range = Range::from(self.system.right_side(row)?);
-        let column = self.system.size() + 1;
-        limited(
-            scaled(range, self.factor(row)),
-            RIGHT_SIDES,
-            ROW_SCALER_PART,
-            row,
-            column,
-        )
+        let ends = self.system.right_side(row)?;
+        self.answer(ends, RIGHT_SIDES, row, self.system.size() + 1)
     }
 }
