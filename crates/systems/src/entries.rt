@@ -1,24 +1,23 @@
-ghost use Rattle.std.specs.Prelude.{◌≡◌, ℕ, ◌+◌, ◌<◌, Bool, Ok, Err};
+ghost use Rattle.std.specs.Prelude.{◌≡◌, ℕ, Bool, Ok, Err, length};
 ghost use Rattle.balance.specs.Places.{unless_refused};
-ghost use Rattle.systems.specs.Entries.{entries_refusal};
+ghost use Rattle.systems.specs.Entries.{entries_refusal, Tests};
 
 use balance::refusal::{Refusal, Returned};
 
-// Refuses another count than the system's size, then the first entry that is not allowed. Entries are asked for from 0.
-pub(crate) fn check_entries<F: Fn(usize) -> bool>(
+// Refuses another count than the system's size, then the first entry that is not allowed. The test sees the entries before it too.
+pub(crate) fn check_entries<T, F: Fn(&[T], &T) -> bool>(
     size: usize,
-    count: usize,
+    entries: &[T],
     allowed: F,
 ) -> Result<(), Refusal>
-    requires { (k : ℕ) → k < count → F.pre allowed k }
-    ensures refuses_the_first_not_allowed { (test : ℕ → Bool) → ((k : ℕ) (r : Bool) → k < count → F.post allowed k r → r ≡ test (k + 1)) → result ≡ unless_refused (entries_refusal size count test) (Ok tt) }
+    requires { F.IsAlwaysCallable allowed }
+    ensures refuses_the_first_not_allowed { (test : ℕ → Bool) → Tests (F.post allowed) entries.now test → result ≡ unless_refused (entries_refusal size (length entries.now) test) (Ok tt) }
 {
-    if count != size {
+    if entries.len() != size {
         return Err(Refusal::Entry { place: 0 });
     }
-    // Tried with `find`: that the test may be called at each number (`find-requires`) stays open there.
-    for k in 0..count {
-        if !allowed(k) {
+    for (k, entry) in entries.iter().enumerate() {
+        if !allowed(&entries[..k], entry) {
             return Err(Refusal::Entry { place: k + 1 });
         }
     }

@@ -24,8 +24,8 @@ fn check_order(size: usize, order: &[usize]) -> Result<(), Refusal>
 {
     check_entries(
         size,
-        order.len(),
-        |k| entry_allowed(size, &order[..k], order[k]),
+        order,
+        |before, entry| entry_allowed(size, before, *entry),
     )
 }
 

@@ -23,7 +23,7 @@ fn factor_allowed(factor: i64) -> bool
 fn check_factors(size: usize, factors: &[i64]) -> Result<(), Refusal>
     ensures { result ≡ unless_refused (factors_refusal size factors.now) (Ok tt) }
 {
-    check_entries(size, factors.len(), |k| factor_allowed(factors[k]))
+    check_entries(size, factors, |_, factor| factor_allowed(*factor))
 }
 
 // A range times a factor; a negative one exchanges the ends. By `Range::checked_mul` the exchange would be hidden among four products, in an `Option`
