@@ -1,5 +1,5 @@
 -- Rows that are multiplied by factors: which factors are taken, and that the solutions stay.
-use Rattle.std.specs.Prelude.{◌≡◌, ℕ, ◌+◌, ◌-◌, ◌^◌, ◌≤◌, Bool, true, false, cond, ◌↔◌, List, length, ℤ, pos, ◌*ℤ◌, neg_ℤ, Some, None, Option, int_le, nat_eq, unsigned_abs, refl}
+use Rattle.std.specs.Prelude.{◌≡◌, ℕ, ◌+◌, ◌-◌, ◌^◌, ◌≤◌, Bool, true, false, cond, ◌↔◌, List, length, ℤ, pos, ◌*ℤ◌, neg_ℤ, Some, None, Option, FitsSigned, int_le, nat_eq, unsigned_abs, refl}
 use Rattle.std.proofs.Common.{slice_index_or, arith, sym, ap, ◌∙◌, to_z, of_z}
 use Rattle.std.proofs.lemmas.Int.{ints, to_z-of_z}
 use Rattle.std.specs.Int.{w64}
@@ -45,11 +45,12 @@ row_factor_is n fs i c = let t : nat_eq (length fs) n ≡ true = eq-eqb (length 
 
 -- ---- products
 
+pub product_fits : (x f : ℤ) → unsigned_abs x ≤ 2 ^ 42 → unsigned_abs f ≤ 1024 → FitsSigned w64 (x *ℤ f)
+product_fits x f h k = let b = product_within x f (2 ^ 42) 1024 h k in omega (arith, ints)
+
 -- a product as the code holds it
 pub product_held : (x f : ℤ) → unsigned_abs x ≤ 2 ^ 42 → unsigned_abs f ≤ 1024 → to_z w64 (of_z w64 (to_z w64 (of_z w64 x) *ℤ to_z w64 (of_z w64 f))) ≡ x *ℤ f
-product_held x f h k =
-    let b = product_within x f (2 ^ 42) 1024 h k in
-    (λ i. to_z w64 (of_z w64 (to_z-of_z w64 x (omega (arith, ints)) i *ℤ to_z-of_z w64 f (omega (arith, ints)) i))) ∙ to_z-of_z w64 (x *ℤ f) (omega (arith, ints))
+product_held x f h k = (λ i. to_z w64 (of_z w64 (to_z-of_z w64 x (omega (arith, ints)) i *ℤ to_z-of_z w64 f (omega (arith, ints)) i))) ∙ to_z-of_z w64 (x *ℤ f) (product_fits x f h k)
 
 -- ---- the law of systems
 
