@@ -1,39 +1,34 @@
 -- Lists with an entry for each node: where the first entry is that is not allowed.
-use Rattle.std.specs.Prelude.{◌≡◌, ℕ, zero, suc, ◌+◌, ◌<◌, ◌≤◌, Bool, true, false, cond, Some, None, Option, ◌==◌, nat_eq, refl}
-use Rattle.std.proofs.Common.{arith, subst, ◌∙◌}
+use Rattle.std.specs.Prelude.{◌≡◌, ℕ, ◌+◌, ◌-◌, ◌<◌, ◌≤◌, Bool, true, false, cond, List, Some, None, Option, ◌==◌, nat_eq, slice_index_or, refl}
+use Rattle.std.proofs.Common.{ap, ◌∙◌}
+use Rattle.std.proofs.Math.Nat.{add-sub_cancel}
 use Rattle.std.proofs.lemmas.Bool.{eq-eqb, eqb-true}
 use Rattle.balance.specs.declared.refusal.Refusal.{Refusal}
 use Rattle.balance.specs.declared.refusal.Refusal.TheVariants.{Entry}
 use Rattle.balance.specs.Places.{first}
+use Rattle.balance.proofs.Entries.{none_all}
 use Rattle.balance.proofs.Searches.{first_stops, none_of}
 use Rattle.systems.specs.Entries.{entries_refusal}
 
+-- entry k + 1 of a list, from 1, is its entry k, from 0
+pub from_one : {X : Type 0} (xs : List X) (k : ℕ) (d : X) → slice_index_or xs (k + 1 - 1) d ≡ slice_index_or xs k d
+from_one xs k d = ap (λ i. slice_index_or xs i d) (add-sub_cancel k 1)
+
 module _ (n count : ℕ) (allowed : ℕ → Bool) where
-  abbrev entry_refusal : ℕ → Option Refusal
+  abbrev pub entry_refusal : ℕ → Option Refusal
   entry_refusal k = cond (allowed k) None (Some (Entry k))
 
-  -- the first k entries are allowed
-  abbrev pub Allowed : ℕ → Type 0
-  Allowed k = (j : ℕ) → j < k → allowed (j + 1) ≡ true
-
-  none_refused : (k : ℕ) → Allowed k → first entry_refusal k ≡ None
-  none_refused zero h = refl
-  none_refused (suc k) h =
-      let e : k + 1 ≡ suc k = omega arith in
-      let a : allowed (suc k) ≡ true = subst (λ i. allowed i ≡ true) e (h k (omega arith)) in
-      rw (none_refused k (λ j l. h j (omega arith)), a)
-
   module _ (counted : count ≡ n) where
-    searched : entries_refusal n count allowed ≡ first entry_refusal n
+    pub searched : entries_refusal n count allowed ≡ first entry_refusal n
     searched = let t : nat_eq count n ≡ true = eq-eqb count n counted in rw t
 
-    pub all_allowed : Allowed n → entries_refusal n count allowed ≡ None
-    all_allowed h = searched ∙ none_refused n h
+    pub all_allowed : ((k : ℕ) → 1 ≤ k → k ≤ n → allowed k ≡ true) → entries_refusal n count allowed ≡ None
+    all_allowed h = searched ∙ none_all entry_refusal n (λ k a b. rw (h k a b) refl)
 
-    pub first_not_allowed : (k : ℕ) → Allowed k → allowed (k + 1) ≡ false → k < n → entries_refusal n count allowed ≡ Some (Entry (k + 1))
+    pub first_not_allowed : (k : ℕ) → first entry_refusal k ≡ None → allowed (k + 1) ≡ false → k < n → entries_refusal n count allowed ≡ Some (Entry (k + 1))
     first_not_allowed k h e l =
         let a : entry_refusal (k + 1) ≡ Some (Entry (k + 1)) = rw e in
-        searched ∙ first_stops entry_refusal (Entry (k + 1)) k n (none_refused k h) a l
+        searched ∙ first_stops entry_refusal (Entry (k + 1)) k n h a l
 
   pub taken : entries_refusal n count allowed ≡ None → (count ≡ n) × ((k : ℕ) → 1 ≤ k → k ≤ n → allowed k ≡ true)
   taken h = by (count == n) refl h

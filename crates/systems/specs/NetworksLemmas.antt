@@ -1,7 +1,8 @@
 -- The records of a network: which it takes, and what they add up to.
-use Rattle.std.specs.Prelude.{◌≡◌, ℕ, zero, suc, ◌+◌, ◌-◌, ◌*◌, ◌^◌, ◌<◌, ◌≤◌, ◌≤ℤ◌, neg_ℤ, Bool, true, false, cond, ◌&&◌, List, [], ◌∷◌, length, get_or, drop, pos, Some, None, Option, ◌==◌, nat_le, slice_index_or, refl}
+use Rattle.std.specs.Prelude.{◌≡◌, ℕ, zero, suc, ◌+◌, ◌*◌, ◌^◌, ◌<◌, ◌≤◌, ◌≤ℤ◌, neg_ℤ, Bool, true, false, cond, ◌&&◌, List, [], ◌∷◌, length, get_or, drop, pos, Some, None, Option, ◌==◌, nat_le, slice_index_or, refl}
 use Rattle.std.proofs.Common.{arith, add-one, sym, ap, subst, ◌∙◌, drop-cons}
 use Rattle.std.proofs.lemmas.Int.{ints}
+use Rattle.std.proofs.lemmas.Bool.{and_parts}
 use Rattle.std.proofs.lemmas.Bool.Decides.{nat_tests}
 use Rattle.balance.specs.declared.refusal.Refusal.{Refusal}
 use Rattle.balance.specs.declared.refusal.Refusal.TheVariants.{Size, Node, Crossed, Limit}
@@ -16,6 +17,7 @@ use Rattle.systems.specs.declared.record.Record.{Record}
 use Rattle.systems.specs.declared.record.Record.TheVariants.{Link, Outside, Heat}
 use Rattle.systems.specs.Networks.{record_at, record_refusal, network_refusal, adds, negated, additions, amount_at, sum_at, Small, conductances, temperatures, heats, in_order, names_nodes, ends_in_order, ends_within, network_sum, network}
 use Rattle.balance.specs.TablesLemmas.{limited_within}
+use Rattle.systems.specs.EntriesLemmas.{from_one}
 use Rattle.systems.specs.Sums.{plus_assoc, plus_between, between_more}
 
 -- ---- the first record that is refused
@@ -24,15 +26,12 @@ use Rattle.systems.specs.Sums.{plus_assoc, plus_between, between_more}
 abbrev pub read : List Record → ℕ → Record
 read rs k = slice_index_or rs k (Link 0 0 (only (pos 0)))
 
-record_is : (rs : List Record) (k : ℕ) → record_at rs (k + 1) ≡ read rs k
-record_is rs k = let e : k + 1 - 1 ≡ k = omega arith in ap (read rs) e
-
 module _ (n : ℕ) (rs : List Record) where
   abbrev pub refusal_of : ℕ → Option Refusal
   refusal_of k = record_refusal n k (record_at rs k)
 
   refusal_at_index : (k : ℕ) (o : Option Refusal) → record_refusal n (k + 1) (read rs k) ≡ o → refusal_of (k + 1) ≡ o
-  refusal_at_index k o h = ap (record_refusal n (k + 1)) (record_is rs k) ∙ h
+  refusal_at_index k o h = ap (record_refusal n (k + 1)) (from_one rs k _) ∙ h
 
   module _ (some : 1 ≤ n) (few : n ≤ 32) (short : length rs ≤ 256) where
     counted : network_refusal n rs ≡ first refusal_of (length rs)
@@ -96,10 +95,6 @@ named_by n k r = by (names_nodes n r) (cond (ends_in_order r) (cond (ends_within
     by true o h = refl
     by false o h = cc
 
-both_pass : (s t : Bool) → (s && t) ≡ true → (s ≡ true) × (t ≡ true)
-both_pass true t h = (refl, h)
-both_pass false t h = cc
-
 within_between : (limit : ℕ) (r s : Range) → neg_ℤ (pos limit) ≤ℤ s.lower → s.upper ≤ℤ pos limit → in_order r ≡ true → within r s ≡ true → Between limit r
 within_between limit r s l u o w = (grind (arith, ints), grind (arith, ints), grind (arith, ints))
 
@@ -116,8 +111,8 @@ module _ (i j : ℕ) (g : Range) (taken : Taken (Link i j g)) where
 module _ (i : ℕ) (g t : Range) (taken : Taken (Outside i g t)) where
   outside_between : Between (2 ^ 20) g × Between (2 ^ 30) t
   outside_between =
-      let o = both_pass _ _ taken.in_order in
-      let w = both_pass _ _ taken.within_limits in (
+      let o = and_parts _ _ taken.in_order in
+      let w = and_parts _ _ taken.within_limits in (
         within_between (2 ^ 20) g conductances (omega (arith, ints)) (omega (arith, ints)) o.0 w.0,
         within_between (2 ^ 30) t temperatures (omega (arith, ints)) (omega (arith, ints)) o.1 w.1,
       )
@@ -157,7 +152,7 @@ pub accepted : (n : ℕ) (rs : List Record) → network_refusal n rs ≡ None �
 accepted n rs h = by (nat_le 1 n) (nat_le n 32) (nat_le (length rs) 256) refl refl refl h
   where
     allowed : first (refusal_of n rs) (length rs) ≡ None → (i : ℕ) → i < length rs → record_refusal n (i + 1) (read rs i) ≡ None
-    allowed k i l = ap (record_refusal n (i + 1)) (sym (record_is rs i)) ∙ none_of (refusal_of n rs) (length rs) k (i + 1) (omega arith) (omega arith)
+    allowed k i l = ap (record_refusal n (i + 1)) (sym (from_one rs i _)) ∙ none_of (refusal_of n rs) (length rs) k (i + 1) (omega arith) (omega arith)
 
     by : (s t u : Bool) → nat_le 1 n ≡ s → nat_le n 32 ≡ t → nat_le (length rs) 256 ≡ u → cond (s && t && u) (first (refusal_of n rs) (length rs)) (Some (Size 0)) ≡ None → Accepted n rs
     by true true true e f g k = record {
@@ -187,7 +182,7 @@ module _ (n : ℕ) (rs : List Record) (ok : Accepted n rs) (i j : ℕ) where
 
     pub record_sums_more : total added_by k ≡ s → total added_by (k + 1) ≡ plus s r
     record_sums_more e =
-        let a : added_by (k + 1) ≡ r = ap (λ (x : Record). sum_at i j (additions n x)) (record_is rs k) ∙ sym is in
+        let a : added_by (k + 1) ≡ r = ap (λ (x : Record). sum_at i j (additions n x)) (from_one rs k _) ∙ sym is in
         let t : total added_by (k + 1) ≡ plus (total added_by k) (added_by (k + 1)) = rw add-one in
         t ∙ (λ d. plus (e d) (a d))
 

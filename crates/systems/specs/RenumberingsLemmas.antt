@@ -5,7 +5,8 @@ use Rattle.std.proofs.lemmas.List.{take_more}
 use Rattle.std.proofs.lemmas.List.Folds.{list_any-append}
 use Rattle.std.proofs.Common.{arith, sym, ap, subst, ◌∙◌}
 use Rattle.std.proofs.Math.Decide.{ℕ_discrete}
-use Rattle.std.proofs.lemmas.Bool.{eq-eqb, ne_eqb, eqb-true}
+use Rattle.std.proofs.lemmas.Bool.{and_parts, and_from, eq-eqb, ne_eqb, eqb-true}
+use Rattle.std.proofs.Math.Nat.{add-sub_cancel}
 use Rattle.std.proofs.lemmas.Bool.Decides.{nat_tests}
 use Rattle.balance.specs.declared.range.Range.{Range}
 use Rattle.balance.specs.Ranges.{only, times, meets}
@@ -17,13 +18,10 @@ use Rattle.balance.proofs.Points.{solution_fits, fits_solution, every_passes, pa
 use Rattle.balance.proofs.Searches.{is_a_node, coefficient_at, right_side_at}
 use Rattle.systems.specs.Renumberings.{entry_at, node_below, renumbered, is_new, entry_allowed, order_refusal, Permutation, IsPermutation, Renumbers, RenumbersSolutions}
 use Rattle.systems.specs.Permutations.{onto, total_permuted}
-use Rattle.systems.specs.EntriesLemmas.{taken, all_allowed}
+use Rattle.systems.specs.EntriesLemmas.{from_one, taken, all_allowed}
 use Rattle.systems.specs.Sums.{total_same}
 
 -- ---- entries that are new
-
-entry_index : (ps : List ℕ) (k : ℕ) → entry_at ps (k + 1) ≡ slice_index ps k
-entry_index ps k = let e : k + 1 - 1 ≡ k = omega arith in ap (λ i. slice_index ps i) e
 
 -- the entries before it, as the code looks them up
 before_are : (ps : List ℕ) (p k : ℕ) → k ≤ length ps → every (λ j. not (entry_at ps j == p)) k ≡ not (list_any (λ q. q == p) (take k ps))
@@ -31,7 +29,7 @@ before_are ps p zero l = refl
 before_are ps p (suc k) l =
     let e : suc k ≡ k + 1 = omega arith in
     let t : take (suc k) ps ≡ take k ps ++ slice_index ps k ∷ [] = ap (λ i. take i ps) e ∙ take_more ps k 0 (omega arith) in
-    let a : entry_at ps (suc k) ≡ slice_index ps k = ap (entry_at ps) e ∙ entry_index ps k in
+    let a : entry_at ps (suc k) ≡ slice_index ps k = ap (entry_at ps) e ∙ from_one ps k 0 in
     let more : list_any (λ q. q == p) (take (suc k) ps) ≡ (list_any (λ q. q == p) (take k ps) || (slice_index ps k == p || false)) = ap (list_any (λ q. q == p)) t ∙ list_any-append (λ q. q == p) (take k ps) (slice_index ps k ∷ []) in
     rw (before_are ps p k (omega arith), a, more) (neither (list_any (λ q. q == p) (take k ps)) (slice_index ps k == p))
   where
@@ -42,20 +40,15 @@ before_are ps p (suc k) l =
 
 pub entry_allowed_is : (n : ℕ) (ps : List ℕ) (k : ℕ) → k ≤ length ps → entry_allowed n ps (k + 1) ≡ (is_node n (slice_index ps k) && not (list_any (λ q. q == slice_index ps k) (take k ps)))
 entry_allowed_is n ps k l =
-    let e : k + 1 - 1 ≡ k = omega arith in
-    let a : is_new ps (k + 1) ≡ not (list_any (λ q. q == slice_index ps k) (take k ps)) = (λ i. every (λ j. not (entry_at ps j == entry_index ps k i)) (e i)) ∙ before_are ps (slice_index ps k) k l in
-    λ i. is_node n (entry_index ps k i) && a i
+    let a : is_new ps (k + 1) ≡ not (list_any (λ q. q == slice_index ps k) (take k ps)) = (λ i. every (λ j. not (entry_at ps j == from_one ps k 0 i)) (add-sub_cancel k 1 i)) ∙ before_are ps (slice_index ps k) k l in
+    λ i. is_node n (from_one ps k 0 i) && a i
 
 -- ---- the lists that are taken are the permutations
 
 module _ (n : ℕ) (ps : List ℕ) where
   module _ (allowed : (k : ℕ) → 1 ≤ k → k ≤ n → entry_allowed n ps k ≡ true) where
     entry_passes : (k : ℕ) → 1 ≤ k → k ≤ n → (is_node n (entry_at ps k) ≡ true) × (is_new ps k ≡ true)
-    entry_passes k a b = passed (is_node n (entry_at ps k)) (is_new ps k) (allowed k a b)
-      where
-        passed : (s t : Bool) → (s && t) ≡ true → (s ≡ true) × (t ≡ true)
-        passed true t h = (refl, h)
-        passed false t h = cc
+    entry_passes k a b = and_parts (is_node n (entry_at ps k)) (is_new ps k) (allowed k a b)
 
     entries_within : (i : ℕ) → 1 ≤ i → i ≤ n → (1 ≤ entry_at ps i) × (entry_at ps i ≤ n)
     entries_within i a b = let h = (entry_passes i a b).0 in (grind (arith, nat_tests), grind (arith, nat_tests))
@@ -76,7 +69,7 @@ module _ (n : ℕ) (ps : List ℕ) where
       (t.0, record { within = entries_within t.1; one_to_one = entries_apart t.1; onto = onto n (entry_at ps) (entries_within t.1) (entries_apart t.1) })
 
   pub permutation_taken : IsPermutation n ps → order_refusal n ps ≡ None
-  permutation_taken (count, p) = all_allowed n (length ps) (entry_allowed n ps) count (λ j l. both (j + 1) (entry_is_node (j + 1) (omega arith) (omega arith)) (entry_is_new (j + 1) (omega arith) (omega arith)))
+  permutation_taken (count, p) = all_allowed n (length ps) (entry_allowed n ps) count (λ k a b. and_from _ _ (entry_is_node k a b) (entry_is_new k a b))
     where
       entry_is_node : (k : ℕ) → 1 ≤ k → k ≤ n → is_node n (entry_at ps k) ≡ true
       entry_is_node k a b = is_a_node n (entry_at ps k) (p.within k a b).0 (p.within k a b).1
@@ -86,9 +79,6 @@ module _ (n : ℕ) (ps : List ℕ) where
 
       entry_is_new : (k : ℕ) → 1 ≤ k → k ≤ n → is_new ps k ≡ true
       entry_is_new k a b = passes_every (λ j. not (entry_at ps j == entry_at ps k)) (k - 1) (λ j c d. ap not (ne_eqb (entry_at ps j) (entry_at ps k) (λ e. apart j k d c (p.one_to_one j k c (omega arith) a b e))))
-
-      both : (k : ℕ) → is_node n (entry_at ps k) ≡ true → is_new ps k ≡ true → entry_allowed n ps k ≡ true
-      both k e f = rw (e, f)
 
 -- ---- the nodes below, and the law of systems
 

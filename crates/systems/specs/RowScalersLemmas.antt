@@ -1,6 +1,6 @@
 -- Rows that are multiplied by factors: which factors are taken, and that the solutions stay.
-use Rattle.std.specs.Prelude.{◌≡◌, ℕ, ◌+◌, ◌-◌, ◌^◌, ◌≤◌, Bool, true, false, cond, ◌↔◌, List, length, ℤ, pos, ◌*ℤ◌, neg_ℤ, Some, None, Option, FitsSigned, int_le, nat_eq, unsigned_abs, refl}
-use Rattle.std.proofs.Common.{slice_index_or, arith, sym, ap, ◌∙◌, to_z, of_z}
+use Rattle.std.specs.Prelude.{◌≡◌, ℕ, ◌+◌, ◌^◌, ◌≤◌, Bool, true, false, cond, ◌↔◌, List, length, ℤ, pos, ◌*ℤ◌, neg_ℤ, Some, None, Option, FitsSigned, int_le, nat_eq, unsigned_abs, refl}
+use Rattle.std.proofs.Common.{arith, sym, ap, ◌∙◌, to_z, of_z}
 use Rattle.std.proofs.lemmas.Int.{ints, to_z-of_z}
 use Rattle.std.specs.Int.{w64}
 use Rattle.std.proofs.lemmas.Bool.{eq-eqb}
@@ -18,9 +18,6 @@ use Rattle.systems.specs.Scaling.{scaled_ordered, scaled_total, scaled_times, sc
 use Rattle.systems.specs.EntriesLemmas.{taken}
 
 -- ---- the factors that are taken
-
-pub factor_index : (fs : List ℤ) (k : ℕ) → factor_at fs (k + 1) ≡ slice_index_or fs k (pos 0)
-factor_index fs k = let e : k + 1 - 1 ≡ k = omega arith in ap (λ i. slice_index_or fs i (pos 0)) e
 
 -- as many factors as nodes, each other than 0 and within ±1,024
 pub record Factors (n : ℕ) (fs : List ℤ) : Type 0 where
