@@ -82,7 +82,7 @@ impl Bounds {
         ensures leaves { self.new ≡ (reading_outcome self.old node range.lower range.upper).box }
     {
         check_node(self.count(), node)?;
-        if range.upper < range.lower {
+        if !range.is_in_order() {
             return Err(Refusal::Crossed { place: node });
         }
         let left = rounding::shared(self.at(node), range);

@@ -67,7 +67,9 @@ pub(crate) fn shared(a: Range, b: Range) -> Option<Range>
     ensures is { result ≡ shared a b }
     ensures is_the_common_part { CommonPart a b result }
 {
-    let lower = a.lower.max(b.lower);
-    let upper = a.upper.min(b.upper);
-    (lower <= upper).then_some(Range { lower, upper })
+    let common = Range {
+        lower: a.lower.max(b.lower),
+        upper: a.upper.min(b.upper),
+    };
+    common.is_in_order().then_some(common)
 }

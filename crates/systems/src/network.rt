@@ -8,7 +8,9 @@ use super::entries::kept;
 use super::record::{Addition, Record};
 use balance::range::Range;
 use balance::refusal::{Refusal, Returned};
-use balance::system::{COEFFICIENTS, RIGHT_SIDES, System, check_node, limited};
+use balance::system::{
+    COEFFICIENTS, RIGHT_SIDES, System, check_node, check_place, is_size, limited,
+};
 
 // A wrong node comes before crossed ends, and these before an end beyond its limits.
 fn check_record(size: usize, number: usize, record: &Record) -> Result<(), Refusal>
@@ -34,7 +36,7 @@ fn check_record(size: usize, number: usize, record: &Record) -> Result<(), Refus
 fn check_records(size: usize, records: &[Record]) -> Result<(), Refusal>
     ensures { result ≡ unless_refused (network_refusal size records.now) (Ok tt) }
 {
-    if !(1..=32).contains(&size) || records.len() > 256 {
+    if !is_size(size) || records.len() > 256 {
         return Err(Refusal::Size { place: 0 });
     }
     for (k, record) in records.iter().enumerate() {
@@ -154,8 +156,7 @@ impl System for Network {
     }
 
     fn coefficient(&self, row: usize, column: usize) -> Result<(i64, i64), Refusal> {
-        check_node(self.size, row)?;
-        check_node(self.size, column)?;
+        check_place(self.size, row, column)?;
         self.answer(COEFFICIENTS, row, column)
     }
 

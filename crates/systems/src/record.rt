@@ -1,8 +1,8 @@
 ghost use Rattle.std.specs.Prelude.{◌≡◌};
-ghost use Rattle.systems.specs.Networks.{names_nodes, in_order, ends_in_order, ends_within, adds, amount_at};
+ghost use Rattle.systems.specs.Networks.{names_nodes, ends_in_order, ends_within, adds, amount_at};
 
 use balance::range::Range;
-use balance::system::is_node;
+use balance::system::{RIGHT_SIDES, is_node};
 
 // Conductances lie in 0 to 2^20.
 const CONDUCTANCES: Range = Range {
@@ -15,18 +15,6 @@ const TEMPERATURES: Range = Range {
     lower: -1_073_741_824,
     upper: 1_073_741_824,
 };
-
-// Heats lie within ±2^42.
-const HEATS: Range = Range {
-    lower: -4_398_046_511_104,
-    upper: 4_398_046_511_104,
-};
-
-fn in_order(range: Range) -> bool
-    ensures { result ≡ in_order range }
-{
-    range.lower <= range.upper
-}
 
 // One record of a network. Conductances are in mW/K, temperatures in millidegrees Celsius, heats in µW.
 // The sorts are a closed list, so each question matches them: closures or `dyn` would hide from clauses which sort a record is.
@@ -67,17 +55,17 @@ impl Record {
         ensures { result ≡ ends_in_order self.now }
     {
         match *self {
-            Record::Link { conductance, .. } => in_order(conductance),
+            Record::Link { conductance, .. } => conductance.is_in_order(),
             Record::Outside {
                 conductance,
                 temperature,
                 ..
-            } => in_order(conductance) && in_order(temperature),
-            Record::Heat { heat, .. } => in_order(heat),
+            } => conductance.is_in_order() && temperature.is_in_order(),
+            Record::Heat { heat, .. } => heat.is_in_order(),
         }
     }
 
-    // Whether no end lies beyond the limits of its quantity.
+    // Whether no end lies beyond the limits of its quantity; a heat is part of a right side and has its limits.
     pub(crate) fn is_within_limits(&self) -> bool
         ensures { result ≡ ends_within self.now }
     {
@@ -88,7 +76,7 @@ impl Record {
                 temperature,
                 ..
             } => conductance.is_within(CONDUCTANCES) && temperature.is_within(TEMPERATURES),
-            Record::Heat { heat, .. } => heat.is_within(HEATS),
+            Record::Heat { heat, .. } => heat.is_within(RIGHT_SIDES),
         }
     }
 }

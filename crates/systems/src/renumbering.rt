@@ -7,7 +7,7 @@ ghost use Rattle.systems.specs.RenumberingsLemmas.{renumbered_lawful};
 
 use super::entries::{check_entries, kept};
 use balance::refusal::{Refusal, Returned};
-use balance::system::{System, check_node, is_node};
+use balance::system::{System, check_node, check_place, is_node};
 
 // The layer's part number, a constant of the module as a generic `impl` does not show the value of `Self::PART` to the checker.
 const RENUMBERING_PART: usize = 4;
@@ -71,9 +71,7 @@ impl<S: System> System for Renumbering<S> {
     }
 
     fn coefficient(&self, row: usize, column: usize) -> Result<(i64, i64), Refusal> {
-        let size = self.system.size();
-        check_node(size, row)?;
-        check_node(size, column)?;
+        check_place(self.system.size(), row, column)?;
         self.system.coefficient(self.below(row), self.below(column))
     }
 
