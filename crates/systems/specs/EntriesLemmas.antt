@@ -14,6 +14,11 @@ use Rattle.systems.specs.Entries.{entries_refusal}
 pub from_one : {X : Type 0} (xs : List X) (k : ℕ) (d : X) → slice_index_or xs (k + 1 - 1) d ≡ slice_index_or xs k d
 from_one xs k d = ap (λ i. slice_index_or xs i d) (add-sub_cancel k 1)
 
+-- where nothing is refused, a test has passed and what comes after it refuses nothing
+pub test_passed : (s : Bool) (o : Option Refusal) (e : Refusal) → cond s o (Some e) ≡ None → (s ≡ true) × (o ≡ None)
+test_passed true o e h = (refl, h)
+test_passed false o e h = cc
+
 module _ (n count : ℕ) (allowed : ℕ → Bool) where
   abbrev pub entry_refusal : ℕ → Option Refusal
   entry_refusal k = cond (allowed k) None (Some (Entry k))
@@ -31,12 +36,6 @@ module _ (n count : ℕ) (allowed : ℕ → Bool) where
         searched ∙ first_stops entry_refusal (Entry (k + 1)) k n h a l
 
   pub taken : entries_refusal n count allowed ≡ None → (count ≡ n) × ((k : ℕ) → 1 ≤ k → k ≤ n → allowed k ≡ true)
-  taken h = by (count == n) refl h
-    where
-      passes : (k : ℕ) (t : Bool) → allowed k ≡ t → cond t None (Some (Entry k)) ≡ None → allowed k ≡ true
-      passes k true e h = e
-      passes k false e h = cc
-
-      by : (t : Bool) → (count == n) ≡ t → cond t (first entry_refusal n) (Some (Entry 0)) ≡ None → (count ≡ n) × ((k : ℕ) → 1 ≤ k → k ≤ n → allowed k ≡ true)
-      by true e h = (eqb-true count n e, λ k a b. passes k (allowed k) refl (none_of entry_refusal n h k a b))
-      by false e h = cc
+  taken h =
+      let t = test_passed (count == n) (first entry_refusal n) (Entry 0) h in
+      (eqb-true count n t.0, λ k a b. (test_passed (allowed k) None (Entry k) (none_of entry_refusal n t.1 k a b)).0)

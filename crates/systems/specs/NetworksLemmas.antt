@@ -17,7 +17,7 @@ use Rattle.systems.specs.declared.record.Record.{Record}
 use Rattle.systems.specs.declared.record.Record.TheVariants.{Link, Outside, Heat}
 use Rattle.systems.specs.Networks.{record_at, record_refusal, network_refusal, adds, negated, additions, amount_at, sum_at, Small, conductances, temperatures, heats, in_order, names_nodes, ends_in_order, ends_within, network_sum, network}
 use Rattle.balance.specs.TablesLemmas.{limited_within}
-use Rattle.systems.specs.EntriesLemmas.{from_one}
+use Rattle.systems.specs.EntriesLemmas.{from_one, test_passed}
 use Rattle.systems.specs.Sums.{plus_assoc, plus_between, between_more}
 
 -- ---- the first record that is refused
@@ -79,21 +79,12 @@ pub record Taken (r : Record) : Type 0 where
   pub in_order : ends_in_order r ≡ true
   pub within_limits : ends_within r ≡ true
 
-taken_by : (n k : ℕ) (r : Record) → record_refusal n k r ≡ None → Taken r
-taken_by n k r = by (names_nodes n r) (ends_in_order r) (ends_within r) refl refl
-  where
-    by : (s t u : Bool) → ends_in_order r ≡ t → ends_within r ≡ u → cond s (cond t (cond u None (Some (Limit 2 k 0))) (Some (Crossed k))) (Some (Node k)) ≡ None → Taken r
-    by true true true e f h = record { in_order = e; within_limits = f }
-    by true true false e f h = cc
-    by true false u e f h = cc
-    by false t u e f h = cc
-
-named_by : (n k : ℕ) (r : Record) → record_refusal n k r ≡ None → names_nodes n r ≡ true
-named_by n k r = by (names_nodes n r) (cond (ends_in_order r) (cond (ends_within r) None (Some (Limit 2 k 0))) (Some (Crossed k)))
-  where
-    by : (s : Bool) (o : Option Refusal) → cond s o (Some (Node k)) ≡ None → s ≡ true
-    by true o h = refl
-    by false o h = cc
+taken_by : (n k : ℕ) (r : Record) → record_refusal n k r ≡ None → (names_nodes n r ≡ true) × Taken r
+taken_by n k r h =
+    let nodes = test_passed (names_nodes n r) _ (Node k) h in
+    let order = test_passed (ends_in_order r) _ (Crossed k) nodes.1 in
+    let limits = test_passed (ends_within r) None (Limit 2 k 0) order.1 in
+    (nodes.0, record { in_order = order.0; within_limits = limits.0 })
 
 within_between : (limit : ℕ) (r s : Range) → neg_ℤ (pos limit) ≤ℤ s.lower → s.upper ≤ℤ pos limit → in_order r ≡ true → within r s ≡ true → Between limit r
 within_between limit r s l u o w = (grind (arith, ints), grind (arith, ints), grind (arith, ints))
@@ -149,22 +140,20 @@ pub record Accepted (n : ℕ) (rs : List Record) : Type 0 where
   pub taken : (k : ℕ) → k < length rs → Taken (read rs k)
 
 pub accepted : (n : ℕ) (rs : List Record) → network_refusal n rs ≡ None → Accepted n rs
-accepted n rs h = by (nat_le 1 n) (nat_le n 32) (nat_le (length rs) 256) refl refl refl h
-  where
-    allowed : first (refusal_of n rs) (length rs) ≡ None → (i : ℕ) → i < length rs → record_refusal n (i + 1) (read rs i) ≡ None
-    allowed k i l = ap (record_refusal n (i + 1)) (sym (from_one rs i _)) ∙ none_of (refusal_of n rs) (length rs) k (i + 1) (omega arith) (omega arith)
-
-    by : (s t u : Bool) → nat_le 1 n ≡ s → nat_le n 32 ≡ t → nat_le (length rs) 256 ≡ u → cond (s && t && u) (first (refusal_of n rs) (length rs)) (Some (Size 0)) ≡ None → Accepted n rs
-    by true true true e f g k = record {
+accepted n rs h =
+    let t = test_passed (nat_le 1 n && nat_le n 32 && nat_le (length rs) 256) (first (refusal_of n rs) (length rs)) (Size 0) h in
+    let both = and_parts (nat_le 1 n && nat_le n 32) (nat_le (length rs) 256) t.0 in
+    let size = and_parts (nat_le 1 n) (nat_le n 32) both.0 in
+    record {
       some = grind (arith, nat_tests);
       few = grind (arith, nat_tests);
       short = grind (arith, nat_tests);
-      named = λ i l. named_by n (i + 1) (read rs i) (allowed k i l);
-      taken = λ i l. taken_by n (i + 1) (read rs i) (allowed k i l);
+      named = λ i l. (taken_by n (i + 1) (read rs i) (allowed t.1 i l)).0;
+      taken = λ i l. (taken_by n (i + 1) (read rs i) (allowed t.1 i l)).1;
     }
-    by true true false e f g k = cc
-    by true false u e f g k = cc
-    by false t u e f g k = cc
+  where
+    allowed : first (refusal_of n rs) (length rs) ≡ None → (i : ℕ) → i < length rs → record_refusal n (i + 1) (read rs i) ≡ None
+    allowed k i l = ap (record_refusal n (i + 1)) (sym (from_one rs i _)) ∙ none_of (refusal_of n rs) (length rs) k (i + 1) (omega arith) (omega arith)
 
 module _ (n : ℕ) (rs : List Record) (ok : Accepted n rs) (i j : ℕ) where
   abbrev pub added_by : ℕ → Range
