@@ -1,5 +1,6 @@
 -- The first entry of a list that fails a test, as `position` finds it, names the first refused place.
-use Rattle.std.proofs.Common.{◌≡◌, ℕ, zero, suc, ◌+◌, ◌-◌, ◌<◌, ◌≤◌, Bool, true, false, not, cond, ltb, List, length, get_or, Some, None, Option, refl, sym, subst, arith}
+use Rattle.std.proofs.Common.{◌≡◌, ℕ, zero, suc, ◌+◌, ◌-◌, ◌<◌, ◌≤◌, Bool, true, false, not, cond, ltb, List, length, get_or, Some, None, Option, refl, sym, ap, subst, arith}
+use Rattle.std.proofs.Math.Nat.{add-sub_cancel}
 use Rattle.std.specs.Option.{option_map}
 use Rattle.std.specs.List.{position, position_or_len}
 use Rattle.std.proofs.lemmas.Bool.Decides.{nat_tests}
@@ -8,10 +9,14 @@ use Rattle.balance.specs.declared.refusal.Refusal.{Refusal}
 use Rattle.balance.specs.Places.{first}
 use Rattle.balance.proofs.Searches.{first_stops}
 
--- what a test says that refuses nothing
-pub passed : (test : Bool) (e : Refusal) → cond test None (Some e) ≡ None → test ≡ true
-passed true e h = refl
-passed false e h = cc
+-- entry k + 1 of a list, from 1, is its entry k, from 0
+pub from_one : {X : Type 0} (xs : List X) (k : ℕ) (d : X) → get_or xs (k + 1 - 1) d ≡ get_or xs k d
+from_one xs k d = ap (λ i. get_or xs i d) (add-sub_cancel k 1)
+
+-- where nothing is refused, a test has passed, and what comes after it refuses nothing
+pub test_passed : (test : Bool) (o : Option Refusal) (e : Refusal) → cond test o (Some e) ≡ None → (test ≡ true) × (o ≡ None)
+test_passed true o e h = (refl, h)
+test_passed false o e h = cc
 
 pub none_all : (f : ℕ → Option Refusal) (n : ℕ) → ((j : ℕ) → 1 ≤ j → j ≤ n → f j ≡ None) → first f n ≡ None
 none_all f zero h = refl

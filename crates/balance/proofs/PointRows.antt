@@ -1,5 +1,5 @@
 -- The test of a point, and the sums of its rows.
-use Rattle.std.proofs.Common.{◌≡◌, ℕ, zero, suc, ◌-◌, ◌^◌, ◌<◌, ◌≤◌, Bool, true, false, cond, T, eqb, ◌↔◌, List, map, length, ℤ, pos, negsuc, neg_ℤ, nat_abs, Some, None, Ok, Option, sym, refl, ap, ◌∙◌, subst, arith}
+use Rattle.std.proofs.Common.{◌≡◌, ℕ, zero, suc, ◌-◌, ◌^◌, ◌<◌, ◌≤◌, Bool, true, false, T, eqb, ◌↔◌, List, map, length, ℤ, pos, negsuc, neg_ℤ, nat_abs, Some, None, Ok, Option, sym, refl, ap, ◌∙◌, subst, arith}
 use borrow.Author.Differences.{ints}
 use Rattle.std.proofs.lemmas.Bool.{eq-eqb, ne_eqb, eqb-true}
 use Rattle.std.proofs.lemmas.List.{get_or-map, length-map}
@@ -11,7 +11,7 @@ use Rattle.balance.specs.Meanings.{Place, told, refused, Meaning, IsNode, Told, 
 use Rattle.balance.specs.Places.{first, first_refusal, every}
 use Rattle.balance.specs.Rows.{at, found, small, terms, sum_of, row_sum}
 use Rattle.balance.specs.Points.{numerator, between, numerator_refusal, point_refusal, row, fits, possible_answer, point, Possible, TellsPossible}
-use Rattle.balance.proofs.Entries.{passed}
+use Rattle.balance.proofs.Entries.{test_passed}
 use Rattle.balance.proofs.Searches.{none_of, coefficient_at, right_side_at}
 use Rattle.balance.proofs.Ranges.{times_between_bounds, narrow_fits}
 use Rattle.balance.proofs.RowSums.{row_sum_is}
@@ -34,12 +34,14 @@ pub record Allowed (n : ℕ) (ps : List ℤ) (q : ℤ) : Type 0 where
   pub numerators : (j : ℕ) → 1 ≤ j → j ≤ n → numerator_between (numerator ps j) ≡ true
 
 pub allowed : (n : ℕ) (ps : List ℤ) (q : ℤ) → point_refusal n ps q ≡ None → Allowed n ps q
-allowed n ps q h = by (eqb (length ps) n) (denominator_between q) refl refl h
-  where
-    by : (s t : Bool) → eqb (length ps) n ≡ s → denominator_between q ≡ t → cond s (cond t (first (numerator_refusal ps) n) (Some (PointRefusal 0))) (Some (PointRefusal 0)) ≡ None → Allowed n ps q
-    by true true e f k = record { count = eqb-true (length ps) n e; denominator = f; numerators = λ j a b. passed _ (PointRefusal j) (none_of (numerator_refusal ps) n k j a b) }
-    by true false e f k = cc
-    by false t e f k = cc
+allowed n ps q h =
+    let counted = test_passed (eqb (length ps) n) _ (PointRefusal 0) h in
+    let over = test_passed (denominator_between q) _ (PointRefusal 0) counted.1 in
+    record {
+      count = eqb-true (length ps) n counted.0;
+      denominator = over.0;
+      numerators = λ j a b. (test_passed (numerator_between (numerator ps j)) None (PointRefusal j) (none_of (numerator_refusal ps) n over.1 j a b)).0;
+    }
 
 pub allowed_over : (n : ℕ) (ps : List ℤ) (q : ℤ) → length ps ≡ n → point_refusal (length ps) ps q ≡ None → Allowed n ps q
 allowed_over n ps q e h = allowed n ps q (subst (λ k. point_refusal k ps q ≡ None) e h)

@@ -1,5 +1,5 @@
 -- The test of a certificate as the code makes it.
-use Rattle.std.proofs.Common.{◌≡◌, ℕ, suc, ◌+◌, ◌-◌, ◌*◌, ◌^◌, ◌<◌, ◌≤◌, Bool, true, false, cond, eqb, leb, List, [], ◌∷◌, ◌++◌, length, get_or, ℤ, pos, not, All, position, nat_abs, ◌≤ℤ◌, Some, None, Ok, Err, Option, sym, refl, ap, ◌∙◌, subst, add-one, arith}
+use Rattle.std.proofs.Common.{◌≡◌, ℕ, suc, ◌+◌, ◌-◌, ◌*◌, ◌^◌, ◌<◌, ◌≤◌, Bool, true, false, eqb, leb, List, [], ◌∷◌, ◌++◌, length, get_or, ℤ, pos, not, All, position, nat_abs, ◌≤ℤ◌, Some, None, Ok, Err, Option, sym, refl, ap, ◌∙◌, subst, add-one, arith}
 use lib.Signed.{le_z}
 use borrow.Author.Differences.{ints}
 use Rattle.std.proofs.lemmas.Bool.{eq-eqb, eqb-true, leb-true, le-leb, lt-leb}
@@ -12,7 +12,7 @@ use Rattle.balance.specs.Places.{first, unless_refused}
 use Rattle.balance.specs.Points.{between}
 use Rattle.balance.proofs.Ranges.{sizes_within}
 use Rattle.balance.proofs.Searches.{none_of, first_next, first_ends}
-use Rattle.balance.proofs.Entries.{first_entry}
+use Rattle.balance.proofs.Entries.{first_entry, from_one, test_passed}
 use Rattle.std.specs.Option.{option_map}
 use Rattle.roast.specs.declared.certificate.Row.{Row}
 use Rattle.roast.specs.FirstBox.{Narrow, row, range_made, rows_made, largest_end}
@@ -20,18 +20,10 @@ use Rattle.arrayvec.specs.ArrayVec.{ArrayVec}
 use Rattle.roast.proofs.Sums.{all_listed, largest_listed, with_last}
 use Rattle.roast.specs.Certificates.{magnitude, number, u, others, v, k, first_range, rounded_up, listed, number_refusal, certificate_refusal, dominance_refusal, wide_refusal}
 
--- a test that lets a place pass
-pub kept : (b : Bool) (x : Refusal) → cond b None (Some x) ≡ None → b ≡ true
-kept true x h = refl
-kept false x h = cc
-
 -- ---- the numbers
 
 abbrev pub allowed : ℤ → Bool
 allowed n = between (pos 1) (pos (2 ^ 20)) n
-
-pub number_at : (us : List ℤ) (i : ℕ) → number us (i + 1) ≡ get_or us i (pos 0)
-number_at us i = let e : i + 1 - 1 ≡ i = omega arith in ap (λ n. get_or us n (pos 0)) e
 
 -- the answer to a certificate of the right length, from the index of its first number that is not allowed
 pub checked : (n : ℕ) (us : List ℤ) (o : Option ℕ) → length us ≡ n → o ≡ position (λ u. not (allowed u)) us → unless_refused {X = Unit {0}} (option_map (λ i. Certificate (i + 1)) o) (Ok tt) ≡ unless_refused (certificate_refusal n us) (Ok tt)
@@ -47,11 +39,12 @@ between_is : (z : ℤ) → allowed z ≡ true → (pos 1 ≤ℤ z) × (z ≤ℤ 
 between_is z h = (grind (arith, ints), grind (arith, ints))
 
 pub certified : (n : ℕ) (us : List ℤ) → certificate_refusal n us ≡ None → Certified n us
-certified n us h = by (eqb (length us) n) refl h
-  where
-    by : (s : Bool) → eqb (length us) n ≡ s → cond s (first (number_refusal us) n) (Some (Certificate 0)) ≡ None → Certified n us
-    by true e k = record { count = eqb-true (length us) n e; numbers = λ i a b. between_is (number us i) (kept (allowed (number us i)) (Certificate i) (none_of (number_refusal us) n k i a b)) }
-    by false e k = cc
+certified n us h =
+    let counted = test_passed (eqb (length us) n) _ (Certificate 0) h in
+    record {
+      count = eqb-true (length us) n counted.0;
+      numbers = λ i a b. between_is (number us i) (test_passed (allowed (number us i)) None (Certificate i) (none_of (number_refusal us) n counted.1 i a b)).0;
+    }
 
 -- u_i, and the same number of the list from 0
 pub number_within : (n : ℕ) (us : List ℤ) → certificate_refusal n us ≡ None → (i : ℕ) → 1 ≤ i → i ≤ n → u us i ≤ 2 ^ 20
@@ -63,7 +56,7 @@ number_within n us h i p q =
     within z p q = omega (arith, ints)
 
 pub size_at : (us : List ℤ) (j : ℕ) → u us (j + 1) ≡ nat_abs (get_or us j (pos 0))
-size_at us j = ap nat_abs (number_at us j)
+size_at us j = ap nat_abs (from_one us j (pos 0))
 
 -- ---- weights
 
@@ -113,7 +106,7 @@ module _ {X : Type 0} (f : ℕ → Option Refusal) (g : ℕ → X) where
 
 module _ (m : Meaning) (us : List ℤ) where
   row_narrow : Lawful m → (i : ℕ) → 1 ≤ i → i ≤ m.size → dominance_refusal m us i ≡ None → Narrow (row m us i)
-  row_narrow lawful i p q h = (side_within (m.right_side i) (lawful.right_sides i (p, q)), positive (v m us i) (kept _ (Dominance i) h))
+  row_narrow lawful i p q h = (side_within (m.right_side i) (lawful.right_sides i (p, q)), positive (v m us i) (test_passed _ None (Dominance i) h).0)
     where
       side_within : (q : Place) → Within (2 ^ 42) q → magnitude (range_at q) ≤ 2 ^ 42
       side_within (told r) w = magnitude_within (2 ^ 42) r w
@@ -144,5 +137,5 @@ module _ (m : Meaning) (us : List ℤ) where
   pub range_narrow : (i : ℕ) (r : Range) → Ok r ≡ range_made m us i → Between (2 ^ 30) r
   range_narrow i r h =
       let w = given (wide_refusal m us i) r (first_range m us i) h in
-      let l : k m us i ≤ 2 ^ 30 = leb-true _ _ (kept _ (Wide i) w.0) in
+      let l : k m us i ≤ 2 ^ 30 = leb-true _ _ (test_passed _ None (Wide i) w.0).0 in
       rw w.1 (omega (arith, ints), omega (arith, ints), omega (arith, ints))

@@ -10,8 +10,8 @@ use Rattle.balance.specs.Places.{first, unless_refused, refusal_at, row_refusal,
 use Rattle.balance.specs.Points.{between}
 use Rattle.balance.proofs.Searches.{none_of, all_answer}
 use Rattle.roast.specs.Certificates.{number, v, k, first_box, number_refusal, certificate_refusal, dominance_refusal, wide_refusal, opening, Opens, OpensExactly}
-use Rattle.balance.proofs.Entries.{none_all}
-use Rattle.roast.proofs.Certified.{kept, certified}
+use Rattle.balance.proofs.Entries.{none_all, test_passed}
+use Rattle.roast.proofs.Certified.{certified}
 
 -- ---- from no refusal
 
@@ -22,9 +22,9 @@ module _ (m : Meaning) (us : List ℤ) where
     passes = record {
       count = (certified m.size us b).count;
       numbers = λ i p. (certified m.size us b).numbers i p.0 p.1;
-      dominant = λ i p. at_least (v m us i) (kept (le_z (pos 1) (v m us i)) (Dominance i) (none_of (dominance_refusal m us) m.size d i p.0 p.1));
+      dominant = λ i p. at_least (v m us i) (test_passed (le_z (pos 1) (v m us i)) None (Dominance i) (none_of (dominance_refusal m us) m.size d i p.0 p.1)).0;
     };
-    narrow = λ i p. leb-true (k m us i) (2 ^ 30) (kept (leb (k m us i) (2 ^ 30)) (Wide i) (none_of (wide_refusal m us) m.size w i p.0 p.1));
+    narrow = λ i p. leb-true (k m us i) (2 ^ 30) (test_passed (leb (k m us i) (2 ^ 30)) None (Wide i) (none_of (wide_refusal m us) m.size w i p.0 p.1)).0;
   }
     where
       at_least : (z : ℤ) → le_z (pos 1) z ≡ true → pos 1 ≤ℤ z

@@ -1,23 +1,13 @@
 -- Lists with an entry for each node: where the first entry is that is not allowed.
-use Rattle.std.specs.Prelude.{◌≡◌, ℕ, ◌+◌, ◌-◌, ◌<◌, ◌≤◌, Bool, true, false, cond, List, Some, None, Option, ◌==◌, nat_eq, slice_index_or, refl}
-use Rattle.std.proofs.Common.{ap, ◌∙◌}
-use Rattle.std.proofs.Math.Nat.{add-sub_cancel}
+use Rattle.std.specs.Prelude.{◌≡◌, ℕ, ◌+◌, ◌<◌, ◌≤◌, Bool, true, false, cond, Some, None, Option, ◌==◌, nat_eq, refl}
+use Rattle.std.proofs.Common.{◌∙◌}
 use Rattle.std.proofs.lemmas.Bool.{eq-eqb, eqb-true}
 use Rattle.balance.specs.declared.refusal.Refusal.{Refusal}
 use Rattle.balance.specs.declared.refusal.Refusal.TheVariants.{Entry}
 use Rattle.balance.specs.Places.{first}
-use Rattle.balance.proofs.Entries.{none_all}
+use Rattle.balance.proofs.Entries.{none_all, test_passed}
 use Rattle.balance.proofs.Searches.{first_stops, none_of}
 use Rattle.systems.specs.Entries.{entries_refusal}
-
--- entry k + 1 of a list, from 1, is its entry k, from 0
-pub from_one : {X : Type 0} (xs : List X) (k : ℕ) (d : X) → slice_index_or xs (k + 1 - 1) d ≡ slice_index_or xs k d
-from_one xs k d = ap (λ i. slice_index_or xs i d) (add-sub_cancel k 1)
-
--- where nothing is refused, a test has passed and what comes after it refuses nothing
-pub test_passed : (s : Bool) (o : Option Refusal) (e : Refusal) → cond s o (Some e) ≡ None → (s ≡ true) × (o ≡ None)
-test_passed true o e h = (refl, h)
-test_passed false o e h = cc
 
 module _ (n count : ℕ) (allowed : ℕ → Bool) where
   abbrev pub entry_refusal : ℕ → Option Refusal

@@ -17,7 +17,7 @@ use Rattle.systems.specs.declared.record.Record.{Record}
 use Rattle.systems.specs.declared.record.Record.TheVariants.{Link, Outside, Heat}
 use Rattle.systems.specs.Networks.{record_at, record_refusal, network_refusal, adds, negated, additions, amount_at, sum_at, Small, conductances, temperatures, heats, in_order, names_nodes, ends_in_order, ends_within, network_sum, network}
 use Rattle.balance.specs.TablesLemmas.{limited_within}
-use Rattle.systems.specs.EntriesLemmas.{from_one, test_passed}
+use Rattle.balance.proofs.Entries.{from_one, test_passed}
 use Rattle.systems.specs.Sums.{plus_assoc, plus_between, between_more}
 
 -- ---- the first record that is refused

@@ -18,7 +18,8 @@ use Rattle.balance.proofs.Points.{solution_fits, fits_solution, every_passes, pa
 use Rattle.balance.proofs.Searches.{is_a_node, coefficient_at, right_side_at}
 use Rattle.systems.specs.Renumberings.{entry_at, node_below, renumbered, is_new, entry_allowed, order_refusal, Permutation, IsPermutation, Renumbers, RenumbersSolutions}
 use Rattle.systems.specs.Permutations.{onto, total_permuted}
-use Rattle.systems.specs.EntriesLemmas.{from_one, taken, all_allowed}
+use Rattle.balance.proofs.Entries.{from_one}
+use Rattle.systems.specs.EntriesLemmas.{taken, all_allowed}
 use Rattle.systems.specs.Sums.{total_same}
 
 -- ---- entries that are new

@@ -1,6 +1,6 @@
 use Rattle.std.proofs.Common.{◌≡◌, pos, ap, sym, ◌∙◌, rules}
 use Rattle.systems.specs.RowScalers.{factor_allowed, factor_at}
-use Rattle.systems.specs.EntriesLemmas.{from_one}
+use Rattle.balance.proofs.Entries.{from_one}
 use Rattle.systems.proofs.row_scaler.check_factors.Goals as goal
 
 pub returns : goal.returns
