@@ -1,5 +1,5 @@
 -- The test of a certificate as the code makes it.
-use Rattle.std.proofs.Common.{◌≡◌, ℕ, suc, ◌+◌, ◌-◌, ◌*◌, ◌^◌, ◌<◌, ◌≤◌, Bool, true, false, eqb, leb, List, [], ◌∷◌, ◌++◌, length, get_or, ℤ, pos, not, All, position, nat_abs, ◌≤ℤ◌, Some, None, Ok, Err, Option, sym, refl, ap, ◌∙◌, subst, add-one, arith}
+use Rattle.std.proofs.Common.{◌≡◌, ℕ, suc, ◌+◌, ◌-◌, ◌*◌, ◌^◌, ◌<◌, ◌≤◌, Bool, true, false, eqb, leb, List, [], ◌∷◌, ◌++◌, length, get_or, ℤ, pos, not, All, position, nat_abs, ◌≤ℤ◌, Some, None, Ok, Err, Option, sym, refl, ap, ◌∙◌, subst, arith}
 use lib.Signed.{le_z}
 use borrow.Author.Differences.{ints}
 use Rattle.std.proofs.lemmas.Bool.{eq-eqb, eqb-true, leb-true, le-leb, lt-leb}
@@ -7,7 +7,7 @@ use Rattle.balance.specs.declared.range.Range.{Range}
 use Rattle.balance.specs.declared.refusal.Refusal.{Refusal}
 use Rattle.balance.specs.declared.refusal.Refusal.TheVariants.{Certificate, Dominance, Wide}
 use Rattle.balance.specs.Ranges.{Between, limits}
-use Rattle.balance.specs.Meanings.{Place, told, refused, Meaning, Within, Lawful, range_at, coefficient_range}
+use Rattle.balance.specs.Meanings.{Place, told, refused, Meaning, Within, Lawful, range_at}
 use Rattle.balance.specs.Places.{first, unless_refused}
 use Rattle.balance.specs.Points.{between}
 use Rattle.balance.proofs.Ranges.{sizes_within}
@@ -17,8 +17,8 @@ use Rattle.std.specs.Option.{option_map}
 use Rattle.roast.specs.declared.certificate.Row.{Row}
 use Rattle.roast.specs.FirstBox.{Narrow, row, range_made, rows_made, largest_end}
 use Rattle.arrayvec.specs.ArrayVec.{ArrayVec}
-use Rattle.roast.proofs.Sums.{all_listed, largest_listed, with_last}
-use Rattle.roast.specs.Certificates.{magnitude, number, u, others, v, k, first_range, rounded_up, listed, number_refusal, certificate_refusal, dominance_refusal, wide_refusal}
+use Rattle.roast.proofs.Sums.{all_listed, largest_listed}
+use Rattle.roast.specs.Certificates.{magnitude, number, u, v, k, first_range, rounded_up, listed, number_refusal, certificate_refusal, dominance_refusal, wide_refusal}
 
 -- ---- the numbers
 
@@ -62,10 +62,6 @@ size_at us j = ap nat_abs (from_one us j (pos 0))
 
 pub magnitude_within : (n : ℕ) (a : Range) → Between n a → magnitude a ≤ n
 magnitude_within n a h = let w = sizes_within n a h in omega arith
-
--- one column more of a row, which is not the diagonal
-pub others_more : (m : Meaning) (us : List ℤ) (i j : ℕ) → ¬ (j + 1 ≡ i) → others m us i (j + 1) ≡ others m us i j + magnitude (coefficient_range m i (j + 1)) * u us (j + 1)
-others_more m us i j e = rw (add-one j) (with_last (λ k. magnitude (coefficient_range m i k) * u us k) i j (λ s. e (omega arith)))
 
 -- ---- a list that is filled place by place, until one refuses
 

@@ -1,8 +1,7 @@
 -- Laws of the whole numbers: signs, products in order, and rounded quotients.
-use Rattle.std.proofs.Common.{◌≡◌, ℕ, zero, suc, ◌+◌, ◌*◌, ◌<◌, ◌≤◌, ◌⊎◌, ◌↔◌, ℤ, pos, negsuc, ◌*ℤ◌, neg_ℤ, nat_abs, ◌≤ℤ◌, ◌<ℤ◌, ap, ◌∙◌, subst₂, inl, inr, suc-le-suc, mul-le-mul_right, div-lt_iff_lt-mul, le-div_iff_mul-le, div-le_self, le_of_mul-le-mul_right, arith}
+use Rattle.std.proofs.Common.{◌≡◌, ℕ, zero, suc, ◌+◌, ◌*◌, ◌<◌, ◌≤◌, ◌⊎◌, ◌↔◌, ℤ, pos, negsuc, ◌*ℤ◌, neg_ℤ, ◌≤ℤ◌, ◌<ℤ◌, ap, ◌∙◌, subst₂, inl, inr, mul-le-mul_right, div-lt_iff_lt-mul, le-div_iff_mul-le, le_of_mul-le-mul_right, arith}
 use lib.IntN.{*ℤ_comm}
 use borrow.Author.Differences.{up, down, ints}
-use Rattle.std.specs.Int.{int_div_euclid}
 use Rattle.roast.specs.Rounding.{floor}
 
 pub ≤_trans : (a b c : ℤ) → a ≤ℤ b → b ≤ℤ c → a ≤ℤ c
@@ -50,9 +49,3 @@ floor_above (negsuc z) (negsuc m) d p = (λ h. let k = (div-lt_iff_lt-mul {x = m
 pub floor_is : (z m d : ℤ) → pos 0 <ℤ d → (z ≤ℤ floor m d) ↔ ((z *ℤ d) ≤ℤ m)
 floor_is z m (pos d) s = floor_above z m d (omega (arith, ints))
 floor_is z m (negsuc d) s = absurd s.lt
-
--- a quotient is no larger than what is divided
-pub quotient_within : (m d : ℤ) → pos 0 <ℤ d → nat_abs (int_div_euclid m d) ≤ nat_abs m
-quotient_within (pos m) (pos d) h = div-le_self m d
-quotient_within (negsuc m) (pos d) h = suc-le-suc (div-le_self m d)
-quotient_within m (negsuc d) h = absurd h.lt
