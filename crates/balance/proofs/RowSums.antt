@@ -1,38 +1,15 @@
 -- What an answer says of its place, and the sum of a row term by term.
-use Rattle.std.proofs.Common.{◌≡◌, ℕ, zero, suc, ◌+◌, ◌-◌, ◌^◌, ◌<◌, ◌≤◌, Bool, true, false, cond, eqb, List, map, length, get_or, ℤ, pos, ◌≤ℤ◌, Some, None, Ok, Err, Option, sym, refl, ap, ◌∙◌, subst, arith}
+use Rattle.std.proofs.Common.{◌≡◌, ℕ, zero, suc, ◌+◌, ◌-◌, ◌^◌, ◌<◌, true, false, eqb, List, map, length, get_or, pos, ◌≤ℤ◌, Some, None, Option, sym, refl, ap, ◌∙◌, subst, arith}
 use native.Mathlib.Decide.{ℕ_discrete}
 use borrow.Author.Differences.{ints}
-use Rattle.std.proofs.lemmas.Bool.Decides.{nat_tests}
 use Rattle.std.proofs.lemmas.Bool.{eq-eqb, ne_eqb}
 use Rattle.std.proofs.lemmas.List.{get_or-map}
 use Rattle.balance.specs.declared.range.Range.{Range}
-use Rattle.balance.specs.declared.refusal.Refusal.TheVariants.{Node}
-use Rattle.balance.specs.Ranges.{range, only, Between, plus, times}
-use Rattle.balance.specs.Meanings.{Place, told, refused, Meaning, Within, Lawful, answer, is_node, coefficient_answer}
+use Rattle.balance.specs.Ranges.{only, Between, plus, times}
+use Rattle.balance.specs.Meanings.{Meaning, coefficient_answer}
 use Rattle.balance.specs.Rows.{found, small, term, added, sum_of, at, terms, row_sum}
 
 -- ---- an answer, and the limits of its place
-
-narrow_answer : (limit : ℕ) (p : Place) (l u : ℤ) → Within limit p → Ok (l, u) ≡ answer p → Between limit (range l u)
-narrow_answer limit (told r) l u w h =
-    let e : ◌≡◌ {A = ℤ × ℤ} (l, u) (r.lower, r.upper) = cc in
-    let p = ap (λ x. x.0) e in
-    let q = ap (λ x. x.1) e in
-    (omega (arith, ints), omega (arith, ints), omega (arith, ints))
-narrow_answer limit (refused a b c) l u w h = cc
-
--- the tests of two nodes stand before the answer
-narrow_behind : (limit : ℕ) (p : Place) (i j : ℕ) (l u : ℤ) (s t : Bool) → (s ≡ true → t ≡ true → Within limit p) → Ok (l, u) ≡ cond s (cond t (answer p) (Err (Node j))) (Err (Node i)) → Between limit (range l u)
-narrow_behind limit p i j l u true true w h = narrow_answer limit p l u (w refl refl) h
-narrow_behind limit p i j l u true false w h = cc
-narrow_behind limit p i j l u false t w h = cc
-
-node_of : (n i : ℕ) → is_node n i ≡ true → (1 ≤ i) × (i ≤ n)
-node_of n i h = (grind (arith, nat_tests), grind (arith, nat_tests))
-
-module _ (m : Meaning) (lawful : Lawful m) where
-  pub coefficient_narrow : (i j : ℕ) (l u : ℤ) → Ok (l, u) ≡ coefficient_answer m i j → Between (2 ^ 20) (range l u)
-  coefficient_narrow i j l u h = narrow_behind (2 ^ 20) (m.coefficient i j) i j l u (is_node m.size i) (is_node m.size j) (λ s t. lawful.coefficients i j (node_of m.size i s) (node_of m.size j t)) h
 
 -- ---- terms
 

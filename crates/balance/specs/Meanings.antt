@@ -15,8 +15,12 @@ pub record Meaning : Type 0 where
   pub coefficient : ℕ → ℕ → Place
   pub right_side : ℕ → Place
 
+-- i is one of the numbers 1 to n
+abbrev pub Among : ℕ → ℕ → Type 0
+Among n i = (1 ≤ i) × (i ≤ n)
+
 abbrev pub IsNode : Meaning → ℕ → Type 0
-IsNode m i = (1 ≤ i) × (i ≤ m.size)
+IsNode m i = Among m.size i
 
 -- two meanings are the same if they agree in size and at every place of their nodes
 pub record Same (m m' : Meaning) : Type 0 where

@@ -1,9 +1,9 @@
 -- A point against the balance: whether a member system has it as its solution, told from the ends alone.
-use Rattle.std.specs.Prelude.{◌≡◌, ℕ, ◌-◌, ◌^◌, ◌<◌, Bool, false, cond, T, ◌↔◌, List, length, ℤ, pos, neg_ℤ, Some, None, Ok, Err, Option, Result, ◌==◌, int_le, slice_index_or, unsigned_abs}
+use Rattle.std.specs.Prelude.{◌≡◌, ℕ, ◌-◌, ◌^◌, ◌<◌, Bool, cond, T, ◌↔◌, List, length, ℤ, pos, neg_ℤ, Some, None, Ok, Err, Option, Result, ◌==◌, slice_index_or, unsigned_abs}
 use Rattle.balance.specs.declared.range.Range.{Range}
 use Rattle.balance.specs.declared.refusal.Refusal.{Refusal}
 use Rattle.balance.specs.declared.refusal.Refusal.TheVariants.{Point as PointRefusal}
-use Rattle.balance.specs.Ranges.{only, times, total, meets}
+use Rattle.balance.specs.Ranges.{range, only, contains, times, total, meets}
 use Rattle.balance.specs.Meanings.{Meaning, coefficient_range, right_side_range}
 use Rattle.balance.specs.Places.{first, every, unless_refused, first_refusal}
 use Rattle.balance.specs.Members.{Member, Point, Solves}
@@ -13,7 +13,7 @@ abbrev pub numerator : List ℤ → ℕ → ℤ
 numerator ps j = slice_index_or ps (j - 1) (pos 0)
 
 abbrev pub between : ℤ → ℤ → ℤ → Bool
-between lower upper z = cond (int_le lower z) (int_le z upper) false
+between lower upper z = contains (range lower upper) z
 
 -- numerators lie within ±2^37
 abbrev pub numerator_refusal : List ℤ → ℕ → Option Refusal

@@ -1,8 +1,8 @@
 -- The sum of a row: its coefficients times the ranges of the nodes.
-use Rattle.std.specs.Prelude.{ℕ, zero, suc, ◌-◌, ◌^◌, Bool, false, cond, List, length, ℤ, pos, neg_ℤ, Some, None, Ok, Err, Option, Result, ◌==◌, int_le, slice_index_or}
+use Rattle.std.specs.Prelude.{ℕ, zero, suc, ◌-◌, ◌^◌, Bool, cond, List, length, ℤ, pos, Some, None, Ok, Err, Option, Result, ◌==◌, slice_index_or}
 use Rattle.balance.specs.declared.range.Range.{Range}
 use Rattle.balance.specs.declared.refusal.Refusal.{Refusal}
-use Rattle.balance.specs.Ranges.{range, only, plus, times}
+use Rattle.balance.specs.Ranges.{range, only, within, limits, plus, times}
 use Rattle.balance.specs.Meanings.{Meaning, coefficient_answer}
 
 -- node j's range in a list of ranges
@@ -16,7 +16,7 @@ found (Err e) = None
 
 -- no end beyond ±2^37, so that 32 products with coefficients add up within 64 bits
 abbrev pub small : Range → Bool
-small x = cond (int_le (neg_ℤ (pos (2 ^ 37))) x.lower) (int_le x.upper (pos (2 ^ 37))) false
+small x = within x (limits (2 ^ 37))
 
 abbrev pub product : Option Range → Range → Option Range
 product None x = None

@@ -1,4 +1,5 @@
 ghost use Rattle.std.specs.Prelude.{◌≡◌, ℕ, ◌≤◌, ◌↔◌, true, length, Some, None, IfOk, IfErr, IsTrue};
+ghost use Rattle.balance.specs.Meanings.{IsNode};
 ghost use Rattle.balance.specs.Places.{first_refusal};
 ghost use Rattle.balance.specs.Points.{numerator, point_refusal, fits, possible_answer, TellsPossible};
 
@@ -38,6 +39,7 @@ struct Point<'a> {
 }
 
 impl<'a> Point<'a> {
+    // (The numbers of a certificate and the list of a layer are refused alike, each by a case and a test of its own.)
     // Refuses another count than the system's size, a denominator that is not allowed, or the first numerator that is not.
     fn new(size: usize, numerators: &'a [i64], denominator: i64) -> Result<Point<'a>, Refusal>
         ensures is_allowed { IfOk result (λ p. point_refusal size numerators.now denominator ≡ None) }
@@ -70,7 +72,7 @@ fn every_row_fits<S: System>(system: &S, point: &Point) -> bool
 fn row_fits<S: System>(system: &S, point: &Point, row: usize) -> Option<bool>
     requires answers { first_refusal (S.meaning system.now) ≡ None }
     requires counted { length point.now.numerators.now ≡ (S.meaning system.now).size }
-    requires row_is_a_node { (1 ≤ row) × (row ≤ (S.meaning system.now).size) }
+    requires row_is_a_node { IsNode (S.meaning system.now) row }
     ensures { result ≡ Some (fits (S.meaning system.now) (numerator point.now.numerators.now) point.now.denominator row) }
 {
     let sum = row_sum(system, point.numerators, row, 0)?;

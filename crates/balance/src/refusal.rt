@@ -63,6 +63,7 @@ pub enum Refusal {
     Room,
 }
 
+// The cases are a closed list that is matched here and in its text, so that clauses see which it is.
 impl Refusal {
     // A byte and no enum of its own: users see the number, and it is written into a record of readings.
     pub fn number(&self) -> u8

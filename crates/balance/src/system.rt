@@ -1,5 +1,5 @@
-ghost use Rattle.std.specs.Prelude.{◌≡◌, ℕ, ◌≤◌, ◌&&◌, true, OnOk, nat_le};
-ghost use Rattle.balance.specs.Meanings.{Meaning, Lawful, coefficient_answer, right_side_answer, is_node, node_check, place_check, answer, placed};
+ghost use Rattle.std.specs.Prelude.{◌≡◌, ℕ, ◌&&◌, true, OnOk, nat_le};
+ghost use Rattle.balance.specs.Meanings.{Meaning, Among, Lawful, coefficient_answer, right_side_answer, is_node, node_check, place_check, answer, placed};
 
 use super::range::Range;
 use super::refusal::Refusal;
@@ -47,7 +47,7 @@ pub fn is_size(count: usize) -> bool
 // Whether a number is one of the nodes 1 to n.
 pub fn is_node(size: usize, node: usize) -> bool
     ensures is { result ≡ is_node size node }
-    ensures within { result ≡ true → (1 ≤ node) × (node ≤ size) }
+    ensures within { result ≡ true → Among size node }
 {
     (1..=size).contains(&node)
 }
@@ -55,7 +55,7 @@ pub fn is_node(size: usize, node: usize) -> bool
 // Refuses a number that is none of the nodes 1 to n.
 pub fn check_node(size: usize, node: usize) -> Result<(), Refusal>
     ensures refuses_by_the_number { result ≡ node_check size node }
-    ensures passes_nodes { OnOk result ((1 ≤ node) × (node ≤ size)) }
+    ensures passes_nodes { OnOk result (Among size node) }
 {
     if is_node(size, node) {
         Ok(())
@@ -67,8 +67,8 @@ pub fn check_node(size: usize, node: usize) -> Result<(), Refusal>
 // Refuses a row that is no node, and then a column that is none.
 pub fn check_place(size: usize, row: usize, column: usize) -> Result<(), Refusal>
     ensures refuses_the_row_first { result ≡ place_check size row column }
-    ensures passes_rows { OnOk result ((1 ≤ row) × (row ≤ size)) }
-    ensures passes_columns { OnOk result ((1 ≤ column) × (column ≤ size)) }
+    ensures passes_rows { OnOk result (Among size row) }
+    ensures passes_columns { OnOk result (Among size column) }
 {
     check_node(size, row)?;
     check_node(size, column)

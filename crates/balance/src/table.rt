@@ -1,6 +1,6 @@
-ghost use Rattle.std.specs.Prelude.{◌≡◌, ◌+◌, ◌≤◌, ◌↔◌, map, IsOk, IfOk, IfErr, vec_len};
+ghost use Rattle.std.specs.Prelude.{◌≡◌, ◌+◌, ◌↔◌, map, IsOk, IfOk, IfErr, vec_len};
 ghost use Rattle.balance.specs.declared.refusal.Refusal.TheVariants.{Size};
-ghost use Rattle.balance.specs.Meanings.{answer, placed};
+ghost use Rattle.balance.specs.Meanings.{Among, answer, placed};
 ghost use Rattle.balance.specs.Tables.{Counted, cell, table};
 ghost use Rattle.balance.specs.TablesLemmas.{table_lawful};
 
@@ -40,8 +40,8 @@ impl<C: Cell> Table<C> {
 
     // What the cell at a row and column tells; column n + 1 is the right side.
     fn told(&self, row: usize, column: usize) -> Range
-        requires row_is_a_node { (1 ≤ row) × (row ≤ self.now.size) }
-        requires column_has_a_cell { (1 ≤ column) × (column ≤ self.now.size + 1) }
+        requires row_is_a_node { Among self.now.size row }
+        requires column_has_a_cell { Among (self.now.size + 1) column }
         ensures { result ≡ cell self.now.size (map C.Cell.ends self.now.cells.items) row column }
     {
         self.cells[(row - 1) * (self.size + 1) + (column - 1)].tell()
@@ -49,14 +49,15 @@ impl<C: Cell> Table<C> {
 
     // That as an answer, or the refusal of the place.
     fn answer(&self, limits: Range, row: usize, column: usize) -> Result<(i64, i64), Refusal>
-        requires row_is_a_node { (1 ≤ row) × (row ≤ self.now.size) }
-        requires column_has_a_cell { (1 ≤ column) × (column ≤ self.now.size + 1) }
+        requires row_is_a_node { Among self.now.size row }
+        requires column_has_a_cell { Among (self.now.size + 1) column }
         ensures { result ≡ answer (placed limits 1 row column (cell self.now.size (map C.Cell.ends self.now.cells.items) row column)) }
     {
         limited(self.told(row, column), limits, TABLE_PART, row, column)
     }
 }
 
+// (The two questions are written as those of a network are: a method of the interface would put `answer` into it.)
 impl<C: Cell> System for Table<C> {
     const PART: usize = TABLE_PART;
 

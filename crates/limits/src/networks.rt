@@ -13,7 +13,7 @@ const TEMPERATURE: i64 = 1_073_741_824;
 
 const HEAT: i64 = 4_398_046_511_104;
 
-// What a network of two nodes with these records is answered with.
+// What a network of two nodes with these records is answered with. (Factors and orders are made by other calls.)
 fn made<const N: usize>(heap: Global, records: [Record; N]) -> Result<Result<(), Refusal>, Fail> {
     Ok(outcome(Network::new(2, records.to_vec(heap)?)))
 }

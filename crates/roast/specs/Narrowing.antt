@@ -2,7 +2,7 @@
 use Rattle.std.specs.Prelude.{ℕ, zero, suc, ◌+◌, ◌-◌, ◌≤◌, Bool, true, false, cond, not, List, length, ℤ, pos, Some, None, Option, ◌==◌, int_le, slice_index_or, slice_set}
 use Rattle.balance.specs.declared.range.Range.{Range}
 use Rattle.balance.specs.Ranges.{only, Between, minus, times, total}
-use Rattle.balance.specs.Meanings.{Place, told, refused, Meaning, coefficient_range, right_side_range}
+use Rattle.balance.specs.Meanings.{Place, told, refused, Meaning, Among, coefficient_range, right_side_range}
 use Rattle.balance.specs.Places.{every}
 use Rattle.balance.specs.Rows.{at}
 use Rattle.roast.specs.Rounding.{holds_zero, quotient, shared}
@@ -13,7 +13,7 @@ Box = List Range
 
 -- i is one of the nodes of the box
 abbrev pub HasNode : Box → ℕ → Type 0
-HasNode box i = (1 ≤ i) × (i ≤ length box)
+HasNode box i = Among (length box) i
 
 -- each range in order, and no end beyond ±limit
 abbrev pub AllBetween : ℕ → Box → Type 0

@@ -2,10 +2,10 @@
 use Rattle.std.specs.Prelude.{Bool, false, cond, ◌↔◌, ℤ, pos, ◌*ℤ◌, neg_ℤ, ◌≤ℤ◌, ◌<ℤ◌, Some, None, Option, int_le, int_lt}
 use Rattle.std.specs.Int.{int_min, int_max, int_div_euclid}
 use Rattle.balance.specs.declared.range.Range.{Range}
-use Rattle.balance.specs.Ranges.{range, Ordered, Inside}
+use Rattle.balance.specs.Ranges.{range, contains, Ordered, Inside}
 
 abbrev pub holds_zero : Range → Bool
-holds_zero a = cond (int_le a.lower (pos 0)) (int_le (pos 0) a.upper) false
+holds_zero a = contains a (pos 0)
 
 -- m / d rounded down and rounded up, for d above 0
 abbrev pub floor : ℤ → ℤ → ℤ

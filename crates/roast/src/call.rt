@@ -75,6 +75,7 @@ impl From<Reading> for Range {
     }
 }
 
+// Calls and answers are closed lists, so their texts match them: clauses see which case is shown.
 // A record is shown by what was read.
 impl fmt::Display for Reading {
     ghost output = { λ r. Some (reading_text r.node r.lower r.upper) };

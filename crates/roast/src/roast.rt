@@ -1,4 +1,4 @@
-ghost use Rattle.std.specs.Prelude.{◌≡◌, ℕ, [], Ok, Err};
+ghost use Rattle.std.specs.Prelude.{◌≡◌, ℕ, [], Ok, Err, IfOk};
 ghost use Rattle.roast.specs.declared.call.Answer.TheVariants.{Changed, Changes, AtRest, Ends};
 ghost use Rattle.roast.specs.Certificates.{opening, Opens, first_box, k, LeastBound};
 ghost use Rattle.roast.specs.Machine.{outcome, row_step_at, round, reading_at, readings, rest, ends_at};
@@ -36,7 +36,7 @@ impl<S: System> Roast<S> {
         ensures answers { result ≡ opened (opening (S.meaning self.old.system) certificate.now) }
         ensures leaves { self.new.bounds ≡ opened_box self.old.bounds (opening (S.meaning self.old.system) certificate.now) }
         ensures opens_exactly_when_certified { elim result [ Ok done ↦ Opens (S.meaning self.old.system) certificate.now × (self.new.bounds ≡ first_box (S.meaning self.old.system) certificate.now) | Err e ↦ (Opens (S.meaning self.old.system) certificate.now → ⊥) ] }
-        ensures each_end_is_the_least_bound { elim result [ Ok done ↦ ((i : ℕ) → LeastBound (S.meaning self.old.system) certificate.now i (k (S.meaning self.old.system) certificate.now i)) | Err e ↦ Unit {0} ] }
+        ensures each_end_is_the_least_bound { IfOk result (λ done. (i : ℕ) → LeastBound (S.meaning self.old.system) certificate.now i (k (S.meaning self.old.system) certificate.now i)) }
         ensures keeps_the_system { self.new.system ≡ self.old.system }
     {
         self.bounds = first_bounds(&self.system, certificate)?;

@@ -36,7 +36,7 @@ fn quotient_above(m: Range, d: Range) -> Range
     }
 }
 
-// By hand: as a difference from zero by `Range::checked_sub` it would be an `Option` that is always told.
+// By hand: `Range::checked_sub` tells a difference from zero as an `Option`, and a quotient is none.
 fn negated(a: Range) -> Range
     requires { Between (2 ^ 63 - 1) a }
     ensures { result ≡ negated a }

@@ -1,4 +1,4 @@
-ghost use Rattle.std.specs.Prelude.{◌≡◌, ◌==◌, ◌&&◌, not, Some, None, Ok, Err};
+ghost use Rattle.std.specs.Prelude.{◌≡◌, ◌==◌, ◌&&◌, not, Some, None, Ok, Err, IfOk};
 ghost use Rattle.std.specs.List.{list_any};
 ghost use Rattle.balance.specs.Meanings.{IsNode, is_node};
 ghost use Rattle.balance.specs.Places.{unless_refused};
@@ -8,9 +8,6 @@ ghost use Rattle.systems.specs.RenumberingsLemmas.{renumbered_lawful};
 use super::entries::{check_entries, kept};
 use balance::refusal::{Refusal, Returned};
 use balance::system::{System, check_node, check_place, is_node};
-
-// The layer's part number, a constant of the module as a generic `impl` does not show the value of `Self::PART` to the checker.
-const RENUMBERING_PART: usize = 4;
 
 // Whether an entry is a node, and none of the entries before it.
 fn entry_allowed(size: usize, before: &[usize], entry: usize) -> bool
@@ -43,7 +40,7 @@ impl<S: System> Renumbering<S> {
         ensures made_or_refused_at_the_first_entry { elim result [ Ok l ↦ order_refusal (S.meaning system).size order.items ≡ None | Err e ↦ order_refusal (S.meaning system).size order.items ≡ Some e.refusal ] }
         ensures made_exactly_for_a_permutation { elim result [ Ok l ↦ IsPermutation (S.meaning system).size order.items | Err e ↦ (IsPermutation (S.meaning system).size order.items → ⊥) ] }
         ensures holds_the_system_and_the_order { elim result [ Ok l ↦ (l.system ≡ system) × (l.order ≡ order) | Err e ↦ e.value ≡ (system, order) ] }
-        ensures renumbers_the_solutions { elim result [ Ok l ↦ RenumbersSolutions order.items (S.meaning system) | Err e ↦ Unit {0} ] }
+        ensures renumbers_the_solutions { IfOk result (λ l. RenumbersSolutions order.items (S.meaning system)) }
     {
         let checked = check_order(system.size(), &order);
         let (system, order) = kept(checked, (system, order))?;
@@ -60,7 +57,7 @@ impl<S: System> Renumbering<S> {
 }
 
 impl<S: System> System for Renumbering<S> {
-    const PART: usize = RENUMBERING_PART;
+    const PART: usize = 4;
 
     ghost meaning = { λ l. renumbered l.order.items (S.System.meaning l.system) };
 

@@ -1,4 +1,4 @@
-ghost use Rattle.std.specs.Prelude.{◌≡◌, ◌^◌, ◌≤◌, Some, None, Ok, Err, unsigned_abs};
+ghost use Rattle.std.specs.Prelude.{◌≡◌, ◌^◌, ◌≤◌, Some, None, Ok, Err, IfOk, unsigned_abs};
 ghost use Rattle.balance.specs.Ranges.{range, Between};
 ghost use Rattle.balance.specs.Meanings.{IsNode, answer, placed};
 ghost use Rattle.balance.specs.Places.{unless_refused};
@@ -61,7 +61,7 @@ impl<S: System> RowScaler<S> {
     pub fn new(system: S, factors: Vec<i64>) -> Result<RowScaler<S>, Returned<(S, Vec<i64>)>>
         ensures made_exactly_when_every_factor_is_taken { elim result [ Ok l ↦ factors_refusal (S.meaning system).size factors.items ≡ None | Err e ↦ factors_refusal (S.meaning system).size factors.items ≡ Some e.refusal ] }
         ensures holds_the_system_and_the_factors { elim result [ Ok l ↦ (l.system ≡ system) × (l.factors ≡ factors) | Err e ↦ e.value ≡ (system, factors) ] }
-        ensures keeps_the_solutions { elim result [ Ok l ↦ KeepsSolutions (S.meaning system) (row_scaled factors.items (S.meaning system)) | Err e ↦ Unit {0} ] }
+        ensures keeps_the_solutions { IfOk result (λ l. KeepsSolutions (S.meaning system) (row_scaled factors.items (S.meaning system))) }
     {
         let checked = check_factors(system.size(), &factors);
         let (system, factors) = kept(checked, (system, factors))?;
