@@ -11,46 +11,45 @@ fn entry(call: Call) -> Entry {
 
 // Row steps first, then a reading, one that is in conflict, and rounds.
 fn steps_first(heap: Global) -> Result<Vec<Entry>, AllocError> {
-    let mut entries = Vec::new(heap);
-    entries.push(entry(Call::RowStep { node: 1 }))?;
-    entries.push(entry(Call::RowStep { node: 2 }))?;
-    entries.push(entry(Call::AtRest))?;
-    entries.push(entry(Call::Reading {
-        node: 1,
-        lower: 2,
-        upper: 3,
-    }))?;
-    entries.push(entry(Call::Reading {
-        node: 1,
-        lower: 5,
-        upper: 9,
-    }))?;
-    entries.push(entry(Call::Round))?;
-    entries.push(entry(Call::Round))?;
-    ask_for_ends(&mut entries)?;
-    Ok(entries)
+    Ok(vec![in heap;
+        entry(Call::RowStep { node: 1 }),
+        entry(Call::RowStep { node: 2 }),
+        entry(Call::AtRest),
+        entry(Call::Reading {
+            node: 1,
+            lower: 2,
+            upper: 3
+        }),
+        entry(Call::Reading {
+            node: 1,
+            lower: 5,
+            upper: 9
+        }),
+        entry(Call::Round),
+        entry(Call::Round),
+        entry(Call::AtRest),
+        entry(Call::Ends { node: 1 }),
+        entry(Call::Ends { node: 2 }),
+    ]?)
 }
 
 // A list of readings first, two of them refused, then rounds and a row step.
 fn readings_first(heap: Global) -> Result<Vec<Entry>, AllocError> {
-    let mut records = Vec::new(heap);
-    records.push(Reading::new(3, 0, 1))?;
-    records.push(Reading::new(1, 2, 3))?;
-    records.push(Reading::new(2, 1, 0))?;
-    let mut entries = Vec::new(heap);
-    entries.push(entry(Call::Readings { records }))?;
-    entries.push(entry(Call::Round))?;
-    entries.push(entry(Call::RowStep { node: 2 }))?;
-    entries.push(entry(Call::Round))?;
-    ask_for_ends(&mut entries)?;
-    Ok(entries)
-}
-
-fn ask_for_ends(entries: &mut Vec<Entry>) -> Result<(), AllocError> {
-    entries.push(entry(Call::AtRest))?;
-    entries.push(entry(Call::Ends { node: 1 }))?;
-    entries.push(entry(Call::Ends { node: 2 }))?;
-    Ok(())
+    let records = [
+        Reading::new(3, 0, 1),
+        Reading::new(1, 2, 3),
+        Reading::new(2, 1, 0),
+    ];
+    let records = records.to_vec(heap)?;
+    Ok(vec![in heap;
+        entry(Call::Readings { records }),
+        entry(Call::Round),
+        entry(Call::RowStep { node: 2 }),
+        entry(Call::Round),
+        entry(Call::AtRest),
+        entry(Call::Ends { node: 1 }),
+        entry(Call::Ends { node: 2 }),
+    ]?)
 }
 
 pub fn run(rt: &HostRuntime) -> anyhow::Result<()> {
@@ -72,7 +71,7 @@ fn replay(rt: &HostRuntime, certificate: &[i64], mut entries: Vec<Entry>) -> any
         "opened",
         roast.replay(certificate, entries.as_mut_slice()),
     )?;
-    for entry in entries.iter() {
+    for entry in &entries {
         print_entry(rt, entry)?;
     }
     Ok(())
@@ -81,7 +80,7 @@ fn replay(rt: &HostRuntime, certificate: &[i64], mut entries: Vec<Entry>) -> any
 // A call, its records before it, and what it was answered with.
 fn print_entry(rt: &HostRuntime, entry: &Entry) -> anyhow::Result<()> {
     if let Call::Readings { records } = &entry.call {
-        for record in records.iter() {
+        for record in records {
             println!(rt; "  listed {record}: {}", record.answer)?;
         }
     }

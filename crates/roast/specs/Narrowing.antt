@@ -1,5 +1,5 @@
 -- Row steps, rounds and readings on a box, by the meaning of the system alone.
-use Rattle.std.specs.Prelude.{ℕ, zero, suc, ◌+◌, ◌-◌, ◌≤◌, Bool, true, false, cond, not, List, length, ℤ, pos, Some, None, Option, ◌==◌, int_le, slice_index_or, slice_set}
+use Rattle.std.specs.Prelude.{ℕ, zero, suc, ◌+◌, ◌-◌, Bool, true, false, cond, not, List, length, ℤ, pos, Some, None, Option, ◌==◌, int_le, slice_index_or, slice_set}
 use Rattle.balance.specs.declared.range.Range.{Range}
 use Rattle.balance.specs.Ranges.{only, Between, minus, times, total}
 use Rattle.balance.specs.Meanings.{Place, told, refused, Meaning, Among, coefficient_range, right_side_range}

@@ -1,5 +1,5 @@
 -- Quotients of ranges with the ends rounded outward, and the common part of two ranges.
-use Rattle.std.specs.Prelude.{Bool, false, cond, ◌↔◌, ℤ, pos, ◌*ℤ◌, neg_ℤ, ◌≤ℤ◌, ◌<ℤ◌, Some, None, Option, int_le, int_lt}
+use Rattle.std.specs.Prelude.{Bool, cond, ◌↔◌, ℤ, pos, ◌*ℤ◌, neg_ℤ, ◌≤ℤ◌, ◌<ℤ◌, Some, None, Option, int_le, int_lt}
 use Rattle.std.specs.Int.{int_min, int_max, int_div_euclid}
 use Rattle.balance.specs.declared.range.Range.{Range}
 use Rattle.balance.specs.Ranges.{range, contains, Ordered, Inside}
