@@ -30,13 +30,13 @@ pub first_ends : (f : ℕ → Option Refusal) (e : Refusal) (k n : ℕ) → 1 �
 first_ends f e k n p q h t = let s : k ≡ k - 1 + 1 = omega arith in first_stops f e (k - 1) n h (subst (λ i. f i ≡ Some e) s t) (omega arith)
 
 -- an answer that nothing, or something, goes before
-pub unrefused : (o : Option Refusal) → Ok tt ≡ unless_refused {X = Unit {0}} o (Ok tt) → o ≡ None
-unrefused None h = refl
-unrefused (Some e) h = cc
+pub unrefused : {X : Type 0} (o : Option Refusal) (x y : X) → Ok x ≡ unless_refused o (Ok y) → (o ≡ None) × (x ≡ y)
+unrefused None x y h = (refl, cc)
+unrefused (Some e) x y h = cc
 
-pub refused_by : (o : Option Refusal) (e : Refusal) → Err e ≡ unless_refused {X = Unit {0}} o (Ok tt) → o ≡ Some e
-refused_by None e h = cc
-refused_by (Some x) e h = cc
+pub refused_by : {X : Type 0} (o : Option Refusal) (e : Refusal) (y : X) → Err e ≡ unless_refused o (Ok y) → o ≡ Some e
+refused_by None e y h = cc
+refused_by (Some r) e y h = cc
 
 -- the first k of f that refuses
 pub record Found (f : ℕ → Option Refusal) (n : ℕ) (e : Refusal) : Type 0 where

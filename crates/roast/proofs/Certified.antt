@@ -11,7 +11,7 @@ use Rattle.balance.specs.Meanings.{Place, told, refused, Meaning, Within, Lawful
 use Rattle.balance.specs.Places.{first, unless_refused}
 use Rattle.balance.specs.Points.{between}
 use Rattle.balance.proofs.Ranges.{sizes_within}
-use Rattle.balance.proofs.Searches.{none_of, first_next, first_ends}
+use Rattle.balance.proofs.Searches.{unrefused, refused_by, none_of, first_next, first_ends}
 use Rattle.balance.proofs.Entries.{first_entry, from_one, test_passed}
 use Rattle.std.specs.Option.{option_map}
 use Rattle.roast.specs.declared.certificate.Row.{Row}
@@ -65,15 +65,6 @@ magnitude_within n a h = let w = sizes_within n a h in omega arith
 
 -- ---- a list that is filled place by place, until one refuses
 
--- what goes before an answer, and the answer
-pub given : {X : Type 0} (o : Option Refusal) (x y : X) → Ok x ≡ unless_refused o (Ok y) → (o ≡ None) × (x ≡ y)
-given None x y h = (refl, cc)
-given (Some e) x y h = cc
-
-pub refuses : {X : Type 0} (o : Option Refusal) (e : Refusal) (y : X) → Err e ≡ unless_refused o (Ok y) → o ≡ Some e
-refuses None e y h = cc
-refuses (Some r) e y h = cc
-
 module _ {X : Type 0} (f : ℕ → Option Refusal) (g : ℕ → X) where
   -- none of the first n places refuses, and the list holds what they give
   pub record Filled (xs : List X) (n : ℕ) : Type 0 where
@@ -84,7 +75,7 @@ module _ {X : Type 0} (f : ℕ → Option Refusal) (g : ℕ → X) where
   module _ (xs : List X) (k : ℕ) (some : 1 ≤ k) (filled : Filled xs (k - 1)) where
     pub fills : (n : ℕ) (x : X) (ys : List X) → n ≡ k → ys ≡ xs ++ x ∷ [] → Ok x ≡ unless_refused (f k) (Ok (g k)) → Filled ys n
     fills n x ys e i h =
-        let here = given (f k) x (g k) h in
+        let here = unrefused (f k) x (g k) h in
         let s : k ≡ suc (k - 1) = omega arith in
         let t : n ≡ suc (k - 1) = e ∙ s in
         record {
@@ -96,7 +87,7 @@ module _ {X : Type 0} (f : ℕ → Option Refusal) (g : ℕ → X) where
     stays n ys e i = let s : k - 1 ≡ n = omega arith in record { items = i ∙ filled.items ∙ ap (listed g) s; answered = subst (λ j. first f j ≡ None) s filled.answered }
 
     pub stops : (n : ℕ) (e : Refusal) → k ≤ n → Err e ≡ unless_refused (f k) (Ok (g k)) → first f n ≡ Some e
-    stops n e l h = first_ends f e k n some l filled.answered (refuses (f k) e (g k) h)
+    stops n e l h = first_ends f e k n some l filled.answered (refused_by (f k) e (g k) h)
 
 -- ---- the first box
 
@@ -127,11 +118,11 @@ module _ (m : Meaning) (us : List ℤ) where
 
   pub rows_given : (rows : ArrayVec Row) → Ok rows ≡ rows_made m us → Filled (dominance_refusal m us) (row m us) rows.items m.size
   rows_given rows h =
-      let w = given (first (dominance_refusal m us) m.size) rows (record { items = listed (row m us) m.size }) h in
+      let w = unrefused (first (dominance_refusal m us) m.size) rows (record { items = listed (row m us) m.size }) h in
       record { items = ap (λ (r : ArrayVec Row). r.items) w.1; answered = w.0 }
 
   pub range_narrow : (i : ℕ) (r : Range) → Ok r ≡ range_made m us i → Between (2 ^ 30) r
   range_narrow i r h =
-      let w = given (wide_refusal m us i) r (first_range m us i) h in
+      let w = unrefused (wide_refusal m us i) r (first_range m us i) h in
       let l : k m us i ≤ 2 ^ 30 = leb-true _ _ (test_passed _ None (Wide i) w.0).0 in
       rw w.1 (omega (arith, ints), omega (arith, ints), omega (arith, ints))

@@ -8,5 +8,5 @@ pub returns-clause-keeps_the_solutions : goal.returns-clause-keeps_the_solutions
 returns-clause-keeps_the_solutions g c =
     let m = g.S.System.meaning c.args.system in
     let fs = vec_items c.args.factors in
-    let none : factors_refusal m.size fs ≡ None = (λ i. factors_refusal (sym c.size.ensures.is_the_size i) (sym c.deref.ensures.value i)) ∙ unrefused _ (sym c.in_ok-system.ensures.kept_exactly_when_it_passed ∙ c.check_factors-checked.ensures) in
+    let none : factors_refusal m.size fs ≡ None = (λ i. factors_refusal (sym c.size.ensures.is_the_size i) (sym c.deref.ensures.value i)) ∙ (unrefused _ tt tt (sym c.in_ok-system.ensures.kept_exactly_when_it_passed ∙ c.check_factors-checked.ensures)).0 in
     keeps_solutions m (g.met.S.System.lawful c.args.system) fs none
