@@ -1,7 +1,8 @@
 -- The test of a certificate as the code makes it.
-use Rattle.std.proofs.Common.{◌≡◌, ℕ, suc, ◌+◌, ◌-◌, ◌*◌, ◌^◌, ◌<◌, ◌≤◌, Bool, true, false, eqb, leb, List, [], ◌∷◌, ◌++◌, length, get_or, ℤ, pos, not, All, position, nat_abs, ◌≤ℤ◌, Some, None, Ok, Err, Option, sym, refl, ap, ◌∙◌, subst, arith}
+use Rattle.std.proofs.Common.{◌≡◌, ℕ, suc, ◌+◌, ◌-◌, ◌*◌, ◌^◌, ◌<◌, ◌≤◌, Bool, true, false, eqb, leb, List, [], ◌∷◌, ◌++◌, length, get_or, take, set, ℤ, pos, not, All, position, nat_abs, ◌≤ℤ◌, Some, None, Ok, Err, Option, sym, refl, ap, ◌∙◌, subst, add-one, arith}
 use lib.Signed.{le_z}
 use borrow.Author.Differences.{ints}
+use Rattle.std.proofs.lemmas.Grind.{take-set_at}
 use Rattle.std.proofs.lemmas.Bool.{eq-eqb, eqb-true, leb-true, le-leb, lt-leb}
 use Rattle.balance.specs.declared.range.Range.{Range}
 use Rattle.balance.specs.declared.refusal.Refusal.{Refusal}
@@ -16,9 +17,8 @@ use Rattle.balance.proofs.Entries.{first_entry, from_one, test_passed}
 use Rattle.std.specs.Option.{option_map}
 use Rattle.roast.specs.declared.certificate.Row.{Row}
 use Rattle.roast.specs.FirstBox.{Narrow, row, range_made, rows_made, largest_end}
-use Rattle.arrayvec.specs.ArrayVec.{ArrayVec}
-use Rattle.roast.proofs.Sums.{all_listed, largest_listed}
-use Rattle.roast.specs.Certificates.{magnitude, number, u, v, k, first_range, rounded_up, listed, number_refusal, certificate_refusal, dominance_refusal, wide_refusal}
+use Rattle.roast.proofs.Sums.{all_listed, largest_listed, with_last}
+use Rattle.roast.specs.Certificates.{magnitude, number, u, others, v, k, first_range, rounded_up, listed, number_refusal, certificate_refusal, dominance_refusal, wide_refusal}
 
 -- ---- the numbers
 
@@ -83,11 +83,12 @@ module _ {X : Type 0} (f : ℕ → Option Refusal) (g : ℕ → X) where
           answered = first_next f k n some e filled.answered here.0;
         }
 
-    pub stays : (n : ℕ) (ys : List X) → k ≡ n + 1 → ys ≡ xs → Filled ys n
-    stays n ys e i = let s : k - 1 ≡ n = omega arith in record { items = i ∙ filled.items ∙ ap (listed g) s; answered = subst (λ j. first f j ≡ None) s filled.answered }
-
     pub stops : (n : ℕ) (e : Refusal) → k ≤ n → Err e ≡ unless_refused (f k) (Ok (g k)) → first f n ≡ Some e
     stops n e l h = first_ends f e k n some l filled.answered (refused_by (f k) e (g k) h)
+
+  -- the list is what stands in an array before a place, which is set
+  pub sets : (xs : List X) (k n : ℕ) (x : X) → 1 ≤ k → k ≤ length xs → n ≡ k → Filled (take (k - 1) xs) (k - 1) → Ok x ≡ unless_refused (f k) (Ok (g k)) → Filled (take n (set xs (k - 1) x)) n
+  sets xs k n x some l e filled h = fills (take (k - 1) xs) k some filled n x _ e (take-set_at xs (k - 1) n x (omega arith) (omega arith)) h
 
 -- ---- the first box
 
@@ -116,10 +117,8 @@ module _ (m : Meaning) (us : List ℤ) where
       pub range_taken : end ≤ 2 ^ 30 → Ok (limits end) ≡ range_made m us i
       range_taken h = let t : leb (k m us i) (2 ^ 30) ≡ true = rw end_is at (le-leb end (2 ^ 30) h) in rw (t, end_is)
 
-  pub rows_given : (rows : ArrayVec Row) → Ok rows ≡ rows_made m us → Filled (dominance_refusal m us) (row m us) rows.items m.size
-  rows_given rows h =
-      let w = unrefused (first (dominance_refusal m us) m.size) rows (record { items = listed (row m us) m.size }) h in
-      record { items = ap (λ (r : ArrayVec Row). r.items) w.1; answered = w.0 }
+  pub rows_given : (rows : List Row) → Ok rows ≡ rows_made m us → Filled (dominance_refusal m us) (row m us) rows m.size
+  rows_given rows h = let w = unrefused (first (dominance_refusal m us) m.size) rows (listed (row m us) m.size) h in record { items = w.1; answered = w.0 }
 
   pub range_narrow : (i : ℕ) (r : Range) → Ok r ≡ range_made m us i → Between (2 ^ 30) r
   range_narrow i r h =

@@ -4,7 +4,6 @@ use Rattle.balance.specs.declared.range.Range.{Range}
 use Rattle.balance.specs.declared.refusal.Refusal.{Refusal}
 use Rattle.balance.specs.Meanings.{Meaning, right_side_range}
 use Rattle.balance.specs.Places.{first, unless_refused}
-use Rattle.arrayvec.specs.ArrayVec.{ArrayVec}
 use Rattle.roast.specs.declared.certificate.Row.{Row}
 use Rattle.roast.specs.Certificates.{magnitude, v, rounded_up, listed, first_range, first_box, dominance_refusal, wide_refusal}
 
@@ -21,8 +20,8 @@ abbrev pub row_made : Meaning → List ℤ → ℕ → Result Row Refusal
 row_made m us i = unless_refused (dominance_refusal m us i) (Ok (row m us i))
 
 -- all rows, or the first refusal
-abbrev pub rows_made : Meaning → List ℤ → Result (ArrayVec Row) Refusal
-rows_made m us = unless_refused (first (dominance_refusal m us) m.size) (Ok (record { items = listed (row m us) m.size }))
+abbrev pub rows_made : Meaning → List ℤ → Result (List Row) Refusal
+rows_made m us = unless_refused (first (dominance_refusal m us) m.size) (Ok (listed (row m us) m.size))
 
 -- node i's range, where it is not too wide
 abbrev pub range_made : Meaning → List ℤ → ℕ → Result Range Refusal

@@ -1,5 +1,5 @@
 // The test of a certificate, and the first box.
-ghost use Rattle.std.specs.Prelude.{◌≡◌, ℕ, ◌+◌, ◌-◌, ◌*◌, ◌^◌, ◌<◌, ◌≤◌, All, length, pos, ◌≤ℤ◌, None, Ok, fold, max, unsigned_abs};
+ghost use Rattle.std.specs.Prelude.{◌≡◌, ℕ, ◌+◌, ◌-◌, ◌*◌, ◌^◌, ◌<◌, ◌≤◌, All, length, take, pos, ◌≤ℤ◌, None, Ok, Err, fold, max, unsigned_abs};
 ghost use Rattle.balance.specs.Ranges.{Between, limits};
 ghost use Rattle.balance.specs.Meanings.{IsNode, coefficient_range, right_side_range};
 ghost use Rattle.balance.specs.Places.{first, unless_refused};
@@ -7,7 +7,6 @@ ghost use Rattle.roast.specs.Certificates.{magnitude, mignitude, u, others, v, r
 ghost use Rattle.roast.specs.FirstBox.{Narrow, row, row_made, rows_made, range_made, box_made, largest_end};
 
 use super::bounds::Bounds;
-use arrayvec::ArrayVec;
 use balance::places::every_place_answers;
 use balance::range::Range;
 use balance::refusal::Refusal;
@@ -187,13 +186,14 @@ impl<'a, S: System> Weighted<'a, S> {
         })
     }
 
-    // All rows, or the first whose diagonal does not dominate it.
-    fn rows(&self) -> Result<ArrayVec<Row, 32>, Refusal>
-        ensures { result ≡ rows_made (S.meaning self.now.system.now) self.now.numbers.now }
+    // All rows, node 1 first, or the first whose diagonal does not dominate it. (In fixed memory, by the rule that no call of a roast may fail for
+    // want of memory: the rows behind the last node stay as they begin.)
+    fn rows(&self) -> Result<[Row; 32], Refusal>
+        ensures { elim result [ Ok rows ↦ Ok (take (S.meaning self.now.system.now).size rows) ≡ rows_made (S.meaning self.now.system.now) self.now.numbers.now | Err e ↦ Err e ≡ rows_made (S.meaning self.now.system.now) self.now.numbers.now ] }
     {
-        let mut rows = ArrayVec::new();
+        let mut rows = [Row::default(); 32];
         for node in 1..=self.numbers.len() {
-            rows.push(self.row(node)?);
+            rows[node - 1] = self.row(node)?;
         }
         Ok(rows)
     }
@@ -220,7 +220,7 @@ impl<'a, S: System> Weighted<'a, S> {
         let rows = self.rows()?;
         let mut bounds = Bounds::default();
         for node in 1..=self.numbers.len() {
-            bounds.push(self.range(rows.as_slice(), node)?);
+            bounds.push(self.range(&rows[..self.numbers.len()], node)?);
         }
         Ok(bounds)
     }

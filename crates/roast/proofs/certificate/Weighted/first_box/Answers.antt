@@ -8,7 +8,7 @@ pub returns-in_err-range : goal.returns-in_err-range
 returns-in_err-range g c =
     let w = c.args.self.now in
     let m = g.S.System.meaning w.system.now in
-    let r = rows_given m w.numbers.now c.in_ok-rows.rows (sym c.in_ok-rows.was ∙ c.rows.ensures) in
+    let r = rows_given m w.numbers.now _ c.in_ok-rows.ensures in
     let e = stops _ _ _ _ (omega arith) c.loop-node.invariant m.size c.in_err-range.field-0.0 (omega arith) (sym c.in_err-range.was ∙ c.range.ensures) in
     rw (r.answered, e) (search rules)
 
