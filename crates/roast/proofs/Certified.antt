@@ -1,5 +1,5 @@
 -- The test of a certificate as the code makes it.
-use Rattle.std.proofs.Common.{◌≡◌, ℕ, suc, ◌+◌, ◌-◌, ◌*◌, ◌^◌, ◌<◌, ◌≤◌, Bool, true, false, eqb, leb, List, [], ◌∷◌, ◌++◌, length, get_or, take, set, ℤ, pos, not, All, position, nat_abs, ◌≤ℤ◌, Some, None, Ok, Err, Option, sym, refl, ap, ◌∙◌, subst, add-one, arith}
+use Rattle.std.proofs.Common.{◌≡◌, ℕ, suc, ◌+◌, ◌-◌, ◌*◌, ◌^◌, ◌<◌, ◌≤◌, Bool, true, false, eqb, leb, List, [], ◌∷◌, ◌++◌, length, get_or, take, set, ℤ, pos, not, All, position, nat_abs, ◌≤ℤ◌, Some, None, Ok, Err, Option, sym, refl, ap, ◌∙◌, subst, arith}
 use lib.Signed.{le_z}
 use borrow.Author.Differences.{ints}
 use Rattle.std.proofs.lemmas.Grind.{take-set_at}
@@ -17,8 +17,8 @@ use Rattle.balance.proofs.Entries.{first_entry, from_one, test_passed}
 use Rattle.std.specs.Option.{option_map}
 use Rattle.roast.specs.declared.certificate.Row.{Row}
 use Rattle.roast.specs.FirstBox.{Narrow, row, range_made, rows_made, largest_end}
-use Rattle.roast.proofs.Sums.{all_listed, largest_listed, with_last}
-use Rattle.roast.specs.Certificates.{magnitude, number, u, others, v, k, first_range, rounded_up, listed, number_refusal, certificate_refusal, dominance_refusal, wide_refusal}
+use Rattle.roast.proofs.Sums.{all_listed, largest_listed}
+use Rattle.roast.specs.Certificates.{magnitude, number, u, v, k, first_range, rounded_up, listed, number_refusal, certificate_refusal, dominance_refusal, wide_refusal}
 
 -- ---- the numbers
 
