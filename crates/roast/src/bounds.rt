@@ -7,7 +7,7 @@ use balance::range::Range;
 use std::marker::Model;
 
 // The ranges of at most 32 nodes, node 1 first, each in order and within ±2^30. Of a fixed size with a count beside, by
-// the rule that a roast's box is a plain inner table: a list of fixed room cannot be copied but by a clone that may fail.
+// the rule that a roast's box is a plain inner table; a list of fixed room would be another library's, to be trusted too.
 #[derive(Drop)]
 pub struct Bounds {
     count: usize,
