@@ -206,9 +206,12 @@ mod roasting {
                 )
         );
         assert!(rt; open_one(heap, 1_048_576, 0)? == (Ok(()), Ok((0, 0))));
-        assert!(rt;
-            open_one(heap, 1_048_577, 0)? == (Err(limit(1, 1, 1)), Err(Refusal::Node { place: 1 }))
-        );
+        let place = Refusal::Limit {
+            part: 1,
+            row: 1,
+            column: 1,
+        };
+        assert!(rt; open_one(heap, 1_048_577, 0)? == (Err(place), Err(Refusal::Node { place: 1 })));
         Ok(())
     }
 
