@@ -23,7 +23,7 @@ const NUMBERS: Range = Range {
 const END_LIMIT: u64 = 1_073_741_824;
 
 // Refuses a certificate of another length, or with a number that is not allowed. (The numerators of a point and the list of a layer are refused in
-// the same order, each with a case and a limit of its own; what is alike is `first_outside`.)
+// the same order, each with a case of its own. A point shares `first_outside` with this; the entries of a layer are tested by a closure.)
 pub(crate) fn check_certificate(size: usize, certificate: &[i64]) -> Result<(), Refusal>
     ensures { result ≡ unless_refused (certificate_refusal size certificate.now) (Ok tt) }
 {
