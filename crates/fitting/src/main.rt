@@ -1,9 +1,11 @@
-// What a fitting engineer does by hand: key in a drum, hold probe temperatures against it, slip on the keys.
+// What a fitting engineer does by hand: key in a drum, as a table or as a network of links, hold probe temperatures against it, slip on the keys.
 #![tactic(auto)]
 
+ghost use Rattle.fitting.specs.Piles.{WorkedPiles};
 ghost use Rattle.fitting.specs.Worked.{WorkedDrums};
 
 mod drums;
+mod piles;
 mod replays;
 mod tests;
 
@@ -22,6 +24,7 @@ fn main(rt: HostRuntime) -> anyhow::Result<()> {
 // The drums that are worked through below hold by the definitions.
 fn run(rt: &HostRuntime) -> anyhow::Result<()>
     ensures worked_drums { WorkedDrums }
+    ensures worked_piles { WorkedPiles }
 {
     println!(rt; "a drum of two nodes, as a table of ranges")?;
     probe_table(rt, &Table::new(2, drums::RANGES.to_vec(rt.alloc())?)?)?;
@@ -31,7 +34,8 @@ fn run(rt: &HostRuntime) -> anyhow::Result<()>
     slip_on_tables(rt)?;
     slip_on_cells(rt)?;
     slip_on_points(rt)?;
-    replays::run(rt)
+    replays::run(rt)?;
+    piles::run(rt)
 }
 
 fn probe_table<C: Cell>(rt: &HostRuntime, drum: &Table<C>) -> anyhow::Result<()> {
@@ -56,8 +60,7 @@ fn probe<S: System>(
     Ok(())
 }
 
-// A key sequence, and whether it was taken. What was made is let go. Each program has its own, as a shared one would be a public call that
-// promises nothing.
+// A key sequence, and whether it was taken. What was made is let go.
 fn tell<T: Drop, E: Display + Drop>(
     rt: &HostRuntime,
     keys: &str,

@@ -1,15 +1,11 @@
 // One drum as a network of links and as a table, and layers over the network. At rest the ranges agree node by node.
-#![tactic(auto)]
-
-ghost use Rattle.piles.specs.Worked.{WorkedPiles};
-
+use super::tell;
 use balance::range::Range;
 use balance::refusal::Refusal;
 use balance::system::System;
 use balance::table::Table;
 use roast::roast::Roast;
 use std::alloc::Global;
-use std::fmt::Display;
 use systems::network::Network;
 use systems::record::Record;
 use systems::renumbering::Renumbering;
@@ -131,31 +127,6 @@ const CELLS: [Range; 12] = [
     },
 ];
 
-fn main(rt: HostRuntime) -> anyhow::Result<()> {
-    run(&rt)
-}
-
-// The drum that is shown below holds by the definitions.
-fn run(rt: &HostRuntime) -> anyhow::Result<()>
-    ensures worked_piles { WorkedPiles }
-{
-    print_piles(rt)
-}
-
-// A key sequence, and whether it was taken. What was made is let go. Each program has its own, as a shared one would be a public call that
-// promises nothing.
-fn tell<T: Drop, E: Display + Drop>(
-    rt: &HostRuntime,
-    keys: &str,
-    made: Result<T, E>,
-) -> anyhow::Result<()> {
-    match made {
-        Ok(_) => println!(rt; "  {keys}: taken")?,
-        Err(refusal) => println!(rt; "  {keys}: {refusal}")?,
-    }
-    Ok(())
-}
-
 fn drum(heap: Global) -> anyhow::Result<Network> {
     Ok(Network::new(3, RECORDS.to_vec(heap)?)?)
 }
@@ -194,7 +165,7 @@ fn compare(
     Ok(())
 }
 
-fn print_piles(rt: &HostRuntime) -> anyhow::Result<()> {
+pub fn run(rt: &HostRuntime) -> anyhow::Result<()> {
     let heap = rt.alloc();
     let keyed_in = settled(Table::new(3, CELLS.to_vec(heap)?)?)?;
     println!(rt; "a drum of three nodes as a network of links, beside its table")?;
