@@ -94,6 +94,24 @@ fn sums_of_coefficients_keep_the_limit(rt: HostRuntime) -> Result<(), Fail> {
 }
 
 #[test]
+fn negated_sums_keep_the_limit(rt: HostRuntime) -> Result<(), Fail> {
+    let heap = rt.alloc();
+    let records = [
+        link(1, 2, 0, CONDUCTANCE),
+        link(1, 2, 0, 1),
+        link(1, 3, 0, CONDUCTANCE - 1),
+        link(3, 1, 0, 1),
+    ];
+    let drum = Network::new(3, records.to_vec(heap)?)?;
+    assert_eq!(rt; drum.coefficient(1, 2), Err(limit(2, 1, 2)));
+    assert_eq!(rt; drum.coefficient(2, 1), Err(limit(2, 2, 1)));
+    assert_eq!(rt; drum.coefficient(1, 3), Ok((-CONDUCTANCE, 0)));
+    assert_eq!(rt; drum.coefficient(3, 3), Ok((0, CONDUCTANCE)));
+    assert_eq!(rt; drum.coefficient(2, 2), Err(limit(2, 2, 2)));
+    Ok(())
+}
+
+#[test]
 fn sums_of_right_sides_keep_the_limit(rt: HostRuntime) -> Result<(), Fail> {
     let heap = rt.alloc();
     let records = [
