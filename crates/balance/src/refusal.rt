@@ -88,8 +88,8 @@ impl Refusal {
     }
 
     // The value that follows the number; number 8 has two more.
-    fn first_value(&self) -> usize
-        ensures { result ≡ first_value self.now }
+    pub fn first_value(&self) -> usize
+        ensures tells_the_place_or_part { result ≡ first_value self.now }
     {
         match self {
             Refusal::File | Refusal::Room => 0,

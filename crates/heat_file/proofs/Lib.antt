@@ -1,0 +1,17 @@
+pub mod Cutting
+pub mod Numerals
+pub mod Pieces
+pub mod Lines
+pub mod Shapes
+pub mod Filling
+pub mod Checks
+pub mod Walking
+pub mod Trailers
+pub mod Putting
+pub mod Checking
+pub mod Frames
+pub mod GoodFiles
+pub mod Placing
+pub mod FileLaws
+pub mod Runs
+pub mod Buffers

@@ -1,0 +1,10 @@
+pub mod Cuts
+pub mod Numbers
+pub mod Lines
+pub mod Checks
+pub mod Files
+pub mod Forms
+pub mod Filled
+pub mod Laws
+pub mod Words
+pub mod Reports
