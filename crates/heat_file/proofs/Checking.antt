@@ -1,6 +1,6 @@
 -- Lines are accepted exactly if they are those of well formed entries, and refused exactly at the first bad one.
 use Rattle.std.proofs.Common.{◌≡◌, ℕ, ◌+◌, ◌≤◌, Bool, true, false, cond, inl, inr, List, [], ◌∷◌, ◌++◌, map, length, ℤ, pos, negsuc, Some, None, Option, Ok, Err, Result, sym, refl, ap, ◌∙◌, subst, arith}
-use Rattle.std.specs.List.{AllByRecursion as All}
+use Rattle.std.specs.List.{AllByRecursion}
 use Rattle.std.proofs.lemmas.Bool.{true≢false, false≢true}
 use Rattle.std.proofs.lemmas.Int.{ints}
 use Rattle.std.proofs.lemmas.List.{length-append}
@@ -16,12 +16,12 @@ use Rattle.heat_file.specs.Forms.{Increasing, WellFormed, Stands, Chain, after_a
 use Rattle.heat_file.proofs.Lines.{line_reads, line_written}
 use Rattle.heat_file.proofs.Checks.{stands_from, stands_gives}
 
-pub checked_from : (s : Standing) (p : ℕ) (es : List Entry) → All Brief es → Chain s es → checked s p (map line es) ≡ Ok es
+pub checked_from : (s : Standing) (p : ℕ) (es : List Entry) → AllByRecursion Brief es → Chain s es → checked s p (map line es) ≡ Ok es
 checked_from s p [] b c = refl
 checked_from s p (e ∷ es) b c = rw (line_reads e b.0, stands_from s p e c.0, checked_from (after s e) (p + (length (line e) + 1)) es b.1 c.1) refl
 
 abbrev Lined : Standing → List (List ℕ) → List Entry → Type 0
-Lined s ls es = (ls ≡ map line es) × All Brief es × Chain s es
+Lined s ls es = (ls ≡ map line es) × AllByRecursion Brief es × Chain s es
 
 pub checked_gives : (s : Standing) (p : ℕ) (ls : List (List ℕ)) (es : List Entry) → checked s p ls ≡ Ok es → Lined s ls es
 checked_gives s p [] es q = let z : [] ≡ es = cc in subst (Lined s []) z (refl, tt, tt)
@@ -67,14 +67,14 @@ not_first n (Coefficient i j r) e = refl
 not_first n (RightSide i r) e = refl
 not_first n (Weight i u) e = refl
 
-chain_from : (n : ℕ) (d : Entry) (es : List Entry) → Increasing (key d) es → All (λ e. inside (pos n) e ≡ true) es → All (λ e. ordered e ≡ true) es → Chain (at n d) es
+chain_from : (n : ℕ) (d : Entry) (es : List Entry) → Increasing (key d) es → AllByRecursion (λ e. inside (pos n) e ≡ true) es → AllByRecursion (λ e. ordered e ≡ true) es → Chain (at n d) es
 chain_from n d [] r i s = tt
 chain_from n d (Size m ∷ es) r i s = absurd (false≢true (sym (no_size d m) ∙ r.0))
 chain_from n d (Coefficient a b x ∷ es) r i s = (record { opening = not_first n d (Coefficient a b x); size = refl; nodes = i.0; order = r.0; ends = s.0 }, chain_from n (Coefficient a b x) es r.1 i.1 s.1)
 chain_from n d (RightSide a x ∷ es) r i s = (record { opening = not_first n d (RightSide a x); size = refl; nodes = i.0; order = r.0; ends = s.0 }, chain_from n (RightSide a x) es r.1 i.1 s.1)
 chain_from n d (Weight a u ∷ es) r i s = (record { opening = not_first n d (Weight a u); size = refl; nodes = i.0; order = r.0; ends = s.0 }, chain_from n (Weight a u) es r.1 i.1 s.1)
 
-chain_gives : (n : ℕ) (d : Entry) (es : List Entry) → Chain (at n d) es → Increasing (key d) es × All (λ e. inside (pos n) e ≡ true) es × All (λ e. ordered e ≡ true) es
+chain_gives : (n : ℕ) (d : Entry) (es : List Entry) → Chain (at n d) es → Increasing (key d) es × AllByRecursion (λ e. inside (pos n) e ≡ true) es × AllByRecursion (λ e. ordered e ≡ true) es
 chain_gives n d [] c = (tt, tt, tt)
 chain_gives n d (Size m ∷ es) c = absurd (false≢true (sym (no_size d m) ∙ c.0.order))
 chain_gives n d (Coefficient a b x ∷ es) c = let g = chain_gives n (Coefficient a b x) es c.1 in ((c.0.order, g.0), (c.0.nodes, g.1), (c.0.ends, g.2))
@@ -190,7 +190,7 @@ first_bad s p (l ∷ ls) r q = by (λ t. first_bad t (p + (length l + 1)) ls r) 
         here s p l ls r (subst (Fault s p l) z (shape none))
     by ih (Some e) f q = if ih e f (entry_check s p e) refl q
 
-bad_refused : (s : Standing) (p : ℕ) (es : List Entry) (l : List ℕ) (ls : List (List ℕ)) (r : Refusal) → All Brief es → Chain s es → Fault (after_all s es) (p + length (ended 10 (map line es))) l r → checked s p (map line es ++ (l ∷ ls)) ≡ Err r
+bad_refused : (s : Standing) (p : ℕ) (es : List Entry) (l : List ℕ) (ls : List (List ℕ)) (r : Refusal) → AllByRecursion Brief es → Chain s es → Fault (after_all s es) (p + length (ended 10 (map line es))) l r → checked s p (map line es ++ (l ∷ ls)) ≡ Err r
 bad_refused s p [] l ls r b c f = by (parse_line l) (subst (λ q. line_check s q l ≡ Err r) (omega arith) (fault_from s (p + 0) l r f))
   where
     by : (o : Option Entry) → option o (Err (Shape p)) (entry_check s p) ≡ Err r → option o (Err (Shape p)) (λ e. and_then (entry_check s p e) (λ t. onto e (checked t (p + (length l + 1)) ls))) ≡ Err r

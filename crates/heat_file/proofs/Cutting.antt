@@ -1,6 +1,6 @@
 -- Laws of `cut` and `ended`.
 use Rattle.std.proofs.Common.{◌≡◌, ℕ, Bool, true, false, cond, eqb, List, [], ◌∷◌, ◌++◌, sym, refl, ap, ◌∙◌, append_assoc, append-nil, arith}
-use Rattle.std.specs.List.{AllByRecursion as All}
+use Rattle.std.specs.List.{AllByRecursion}
 use Rattle.std.proofs.lemmas.Bool.{eq-eqb, eqb-true}
 use Rattle.heat_file.specs.Cuts.{cut, onto, ended, closed, Free}
 
@@ -11,19 +11,19 @@ pub cut_first : (s : ℕ) (p t : List ℕ) → Free s p → cut s (p ++ (s ∷ t
 cut_first s [] t f = rw (eqb_same s)
 cut_first s (c ∷ p) t f = rw (f.0, cut_first s p t f.1)
 
-pub cut_ended : (s : ℕ) (ps : List (List ℕ)) (t : List ℕ) → All (Free s) ps → cut s (ended s ps ++ t) ≡ ps ++ cut s t
+pub cut_ended : (s : ℕ) (ps : List (List ℕ)) (t : List ℕ) → AllByRecursion (Free s) ps → cut s (ended s ps ++ t) ≡ ps ++ cut s t
 cut_ended s [] t f = refl
 cut_ended s (p ∷ ps) t f = rw (append_assoc p (s ∷ ended s ps) t, cut_first s p (ended s ps ++ t) f.0, cut_ended s ps t f.1)
 
-onto_free : (s c : ℕ) (ps : List (List ℕ)) → eqb c s ≡ false → All (Free s) ps → All (Free s) (onto c ps)
+onto_free : (s c : ℕ) (ps : List (List ℕ)) → eqb c s ≡ false → AllByRecursion (Free s) ps → AllByRecursion (Free s) (onto c ps)
 onto_free s c [] e f = tt
 onto_free s c (p ∷ ps) e f = ((e, f.0), f.1)
 
-pub cut_free : (s : ℕ) (bs : List ℕ) → All (Free s) (cut s bs)
+pub cut_free : (s : ℕ) (bs : List ℕ) → AllByRecursion (Free s) (cut s bs)
 cut_free s [] = tt
 cut_free s (c ∷ cs) = by (eqb c s) refl (cut_free s cs)
   where
-    by : (b : Bool) → eqb c s ≡ b → All (Free s) (cut s cs) → All (Free s) (cond b ([] ∷ cut s cs) (onto c (cut s cs)))
+    by : (b : Bool) → eqb c s ≡ b → AllByRecursion (Free s) (cut s cs) → AllByRecursion (Free s) (cond b ([] ∷ cut s cs) (onto c (cut s cs)))
     by true e f = (tt, f)
     by false e f = onto_free s c (cut s cs) e f
 
@@ -71,5 +71,5 @@ pub free_append : (s : ℕ) (a b : List ℕ) → Free s a → Free s b → Free 
 free_append s [] b f g = g
 free_append s (c ∷ a) b f g = (f.0, free_append s a b f.1 g)
 
-pub cut_all : (s : ℕ) (ps : List (List ℕ)) → All (Free s) ps → cut s (ended s ps) ≡ ps
+pub cut_all : (s : ℕ) (ps : List (List ℕ)) → AllByRecursion (Free s) ps → cut s (ended s ps) ≡ ps
 cut_all s ps f = ap (cut s) (sym (append-nil (ended s ps))) ∙ (cut_ended s ps [] f ∙ append-nil ps)

@@ -1,7 +1,7 @@
 -- What is known of the lines of a file once they are checked.
 use Rattle.std.proofs.Common.{◌≡◌, ℕ, true, List, [], ◌∷◌, map, ℤ, pos, nat_abs, Some, None, Option, Ok, Err, Result, sym, refl, ap, ◌∙◌, subst, arith}
 use Rattle.std.specs.Option.{ok_or}
-use Rattle.std.specs.List.{AllByRecursion as All}
+use Rattle.std.specs.List.{AllByRecursion}
 use Rattle.balance.specs.declared.refusal.Refusal.{Refusal}
 use Rattle.heat_file.specs.declared.line.Entry.{Entry}
 use Rattle.heat_file.specs.declared.line.Entry.TheVariants.{Size, Coefficient, RightSide, Weight}
@@ -53,5 +53,5 @@ good_from bs p n d q f t = by (check p (cut 10 d)) refl t
           counts = ap size es_are ∙ size_is m g.1 w ∙ sym s;
           whole = f.whole;
           few = omega (arith, s, w.few);
-          nodes = subst (λ m. All (λ e. inside (pos m) e ≡ true) (entries (cut 10 d))) (sym s) (subst (All (λ e. inside (pos m) e ≡ true)) (sym es_are) (refl, w.nodes));
+          nodes = subst (λ m. AllByRecursion (λ e. inside (pos m) e ≡ true) (entries (cut 10 d))) (sym s) (subst (AllByRecursion (λ e. inside (pos m) e ≡ true)) (sym es_are) (refl, w.nodes));
         }

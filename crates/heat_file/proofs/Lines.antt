@@ -3,7 +3,7 @@ use Rattle.std.proofs.Common.{◌≡◌, ℕ, zero, suc, ◌+◌, Bool, true, fa
 use Prim.Native.String.{String}
 use Rattle.std.specs.Fmt.{signed_decimal}
 use Rattle.std.specs.Char.{is_ascii_digit}
-use Rattle.std.specs.List.{AllByRecursion as All}
+use Rattle.std.specs.List.{AllByRecursion}
 use Rattle.std.specs.Str.{bytes_eq}
 use Rattle.std.proofs.lemmas.Bool.{and_parts, eqb-true}
 use Rattle.std.proofs.lemmas.List.{append_cancel_right, drop_more, drop_all}
@@ -17,40 +17,40 @@ use Rattle.heat_file.specs.Lines.{tag, fields, spaced, line, Brief, ReadsLine, o
 use Rattle.heat_file.proofs.Cutting.{cut_all, ended_cut, closed_after, free_append}
 use Rattle.heat_file.proofs.Numerals.{number_signed, number_gives, signed_free}
 
-numbers_signed : (zs : List ℤ) → All Short zs → numbers (map signed_decimal zs) ≡ Some zs
+numbers_signed : (zs : List ℤ) → AllByRecursion Short zs → numbers (map signed_decimal zs) ≡ Some zs
 numbers_signed [] h = refl
 numbers_signed (z ∷ zs) h = rw (number_signed z h.0, numbers_signed zs h.1)
 
-pub numbers_gives : (ws : List (List ℕ)) (zs : List ℤ) → numbers ws ≡ Some zs → (ws ≡ map signed_decimal zs) × All Short zs
-numbers_gives [] zs e = let s : [] ≡ zs = cc in subst (λ zs. ([] ≡ map signed_decimal zs) × All Short zs) s (refl, tt)
+pub numbers_gives : (ws : List (List ℕ)) (zs : List ℤ) → numbers ws ≡ Some zs → (ws ≡ map signed_decimal zs) × AllByRecursion Short zs
+numbers_gives [] zs e = let s : [] ≡ zs = cc in subst (λ zs. ([] ≡ map signed_decimal zs) × AllByRecursion Short zs) s (refl, tt)
 numbers_gives (w ∷ ws) zs e = by (number w) (numbers ws) refl refl (numbers_gives ws) e
   where
     by : (o : Option ℤ) (q : Option (List ℤ)) → number w ≡ o → numbers ws ≡ q →
-        ((zs : List ℤ) → numbers ws ≡ Some zs → (ws ≡ map signed_decimal zs) × All Short zs) →
-        option o None (λ z. option q None (λ zs. Some (z ∷ zs))) ≡ Some zs → (w ∷ ws ≡ map signed_decimal zs) × All Short zs
+        ((zs : List ℤ) → numbers ws ≡ Some zs → (ws ≡ map signed_decimal zs) × AllByRecursion Short zs) →
+        option o None (λ z. option q None (λ zs. Some (z ∷ zs))) ≡ Some zs → (w ∷ ws ≡ map signed_decimal zs) × AllByRecursion Short zs
     by None q f g ih e = cc
     by (Some x) None f g ih e = cc
     by (Some x) (Some xs) f g ih e =
         let s : x ∷ xs ≡ zs = cc in
         let h = number_gives w x f in
         let t = ih xs g in
-        subst (λ zs. (w ∷ ws ≡ map signed_decimal zs) × All Short zs) s (rw (h.0, t.0), (h.1, t.1))
+        subst (λ zs. (w ∷ ws ≡ map signed_decimal zs) × AllByRecursion Short zs) s (rw (h.0, t.0), (h.1, t.1))
 
 spaced_ended : (t : List ℕ) (zs : List ℤ) → (t ++ spaced zs) ++ (32 ∷ []) ≡ ended 32 (t ∷ map signed_decimal zs)
 spaced_ended t [] = rw (append-nil t)
 spaced_ended t (z ∷ zs) = append_assoc t (spaced (z ∷ zs)) (32 ∷ []) ∙ ap (λ l. t ++ (32 ∷ l)) (spaced_ended (signed_decimal z) zs)
 
-all_free : (s : ℕ) (zs : List ℤ) → is_ascii_digit s ≡ false → eqb 45 s ≡ false → All Short zs → All (Free s) (map signed_decimal zs)
+all_free : (s : ℕ) (zs : List ℤ) → is_ascii_digit s ≡ false → eqb 45 s ≡ false → AllByRecursion Short zs → AllByRecursion (Free s) (map signed_decimal zs)
 all_free s [] d m h = tt
 all_free s (z ∷ zs) d m h = (signed_free s z d m h.0, all_free s zs d m h.1)
 
 -- a tag and numbers read back
-pub tagged_spaced : {X : Type 0} (f : List ℕ → List ℤ → Option X) (t : List ℕ) (zs : List ℤ) → Free 32 t → All Short zs → tagged f (words (t ++ spaced zs)) ≡ f t zs
+pub tagged_spaced : {X : Type 0} (f : List ℕ → List ℤ → Option X) (t : List ℕ) (zs : List ℤ) → Free 32 t → AllByRecursion Short zs → tagged f (words (t ++ spaced zs)) ≡ f t zs
 tagged_spaced f t zs p h = rw (spaced_ended t zs, cut_all 32 (t ∷ map signed_decimal zs) (p, all_free 32 zs refl refl h), numbers_signed zs h)
 
 -- and nothing else reads so
 abbrev pub Tagged : {X : Type 0} → (List ℕ → List ℤ → Option X) → List ℕ → X → Type 0
-Tagged f bs x = (t : List ℕ) × (zs : List ℤ) × (bs ≡ t ++ spaced zs) × All Short zs × (f t zs ≡ Some x)
+Tagged f bs x = (t : List ℕ) × (zs : List ℤ) × (bs ≡ t ++ spaced zs) × AllByRecursion Short zs × (f t zs ≡ Some x)
 
 pub tagged_gives : {X : Type 0} (f : List ℕ → List ℤ → Option X) (bs : List ℕ) (x : X) → tagged f (words bs) ≡ Some x → Tagged f bs x
 tagged_gives {X} f bs x e = by (words bs) refl e
@@ -121,9 +121,9 @@ pub line_written : (bs : List ℕ) (e : Entry) → parse_line bs ≡ Some e → 
 line_written bs e q =
     let g = tagged_gives entry bs e q in
     let h = entry_gives g.0 g.1 e g.4 in
-    (g.2 ∙ rw (h.0, h.1), subst (All Short) h.1 g.3)
+    (g.2 ∙ rw (h.0, h.1), subst (AllByRecursion Short) h.1 g.3)
 
-pub spaced_free : (s : ℕ) (zs : List ℤ) → is_ascii_digit s ≡ false → eqb 45 s ≡ false → eqb 32 s ≡ false → All Short zs → Free s (spaced zs)
+pub spaced_free : (s : ℕ) (zs : List ℤ) → is_ascii_digit s ≡ false → eqb 45 s ≡ false → eqb 32 s ≡ false → AllByRecursion Short zs → Free s (spaced zs)
 spaced_free s [] d m b h = tt
 spaced_free s (z ∷ zs) d m b h = (b, free_append s (signed_decimal z) (spaced zs) (signed_free s z d m h.0) (spaced_free s zs d m b h.1))
 

@@ -1,7 +1,7 @@
 -- Each cell and each weight holds what the entries give its place.
 use Rattle.std.proofs.Common.{◌≡◌, ℕ, zero, suc, ◌+◌, ◌-◌, ◌*◌, ◌<◌, ◌≤◌, Bool, true, false, cond, ◌&&◌, eqb, leb, inl, inr, List, [], ◌∷◌, ◌++◌, length, get_or, set, drop, replicate, ℤ, pos, negsuc, nat_abs, sym, refl, ap, ◌∙◌, arith}
 use native.Mathlib.Nat.{mul-le-mul_right}
-use Rattle.std.specs.List.{AllByRecursion as All}
+use Rattle.std.specs.List.{AllByRecursion}
 use Rattle.std.proofs.lemmas.Bool.{and_parts, and_from, leb-true, eq-eqb, eqb-true, cases_order, false≢true}
 use Rattle.std.proofs.lemmas.List.{get_or-set_same, get_or-set_other, length-set, get_or_append_left, get_or-replicate, length-replicate, length-append, length-drop, drop_at}
 use Rattle.balance.specs.declared.range.Range.{Range}
@@ -48,7 +48,7 @@ module _ (n i j : ℕ) (p : 1 ≤ i) (q : i ≤ n) (r : 1 ≤ j) (s : j ≤ n + 
       by false e = get_or-set_other cs (index n a b) (index n i j) x d
           (λ z. let h = index_same n i j a b p t r s v w z in false≢true (sym e ∙ and_from (eqb a i) (eqb b j) (eq-eqb a i (sym h.0)) (eq-eqb b j (sym h.1))))
 
-  put_at : (es : List Entry) (cs : List Range) (d : Range) → n * (n + 1) ≤ length cs → All (λ e. inside (pos n) e ≡ true) es →
+  put_at : (es : List Entry) (cs : List Range) (d : Range) → n * (n + 1) ≤ length cs → AllByRecursion (λ e. inside (pos n) e ≡ true) es →
       get_or (put_cells n es cs) (index n i j) d ≡ range_given n es i j (get_or cs (index n i j) d)
   put_at [] cs d l h = refl
   put_at (Size m ∷ es) cs d l h = put_at es cs d l h.1
@@ -64,7 +64,7 @@ module _ (n i j : ℕ) (p : 1 ≤ i) (q : i ≤ n) (r : 1 ≤ j) (s : j ≤ n + 
       put_at es (set cs (index n (nat_abs a) (n + 1)) x) d (omega (arith, length-set cs (index n (nat_abs a) (n + 1)) x)) h.1 ∙
       ap (range_given n es i j) (wrote cs (nat_abs a) (n + 1) x d l y.0 y.1 (omega arith) (omega arith))
 
-  pub cells_hold : (es : List Entry) (old : List Range) → All (λ e. inside (pos n) e ≡ true) es → n * (n + 1) ≤ length old →
+  pub cells_hold : (es : List Entry) (old : List Range) → AllByRecursion (λ e. inside (pos n) e ≡ true) es → n * (n + 1) ≤ length old →
       get_or (cells n es old) (index n i j) (only (pos 0)) ≡ range_given n es i j (only (pos 0))
   cells_hold es old h l =
       let m = n * (n + 1) in
@@ -84,7 +84,7 @@ module _ (n i : ℕ) (p : 1 ≤ i) (q : i ≤ n) where
           rw f (get_or-set_same us (i - 1) x d (omega arith))
       by false e = get_or-set_other us (a - 1) (i - 1) x d (λ z. false≢true (sym e ∙ eq-eqb a i (omega arith)))
 
-  weight_at : (es : List Entry) (us : List ℤ) (d : ℤ) → n ≤ length us → All (λ e. inside (pos n) e ≡ true) es →
+  weight_at : (es : List Entry) (us : List ℤ) (d : ℤ) → n ≤ length us → AllByRecursion (λ e. inside (pos n) e ≡ true) es →
       get_or (put_weights es us) (i - 1) d ≡ weight_given es i (get_or us (i - 1) d)
   weight_at [] us d l h = refl
   weight_at (Size m ∷ es) us d l h = weight_at es us d l h.1
@@ -95,7 +95,7 @@ module _ (n i : ℕ) (p : 1 ≤ i) (q : i ≤ n) where
       weight_at es (set us (nat_abs a - 1) u) d (omega (arith, length-set us (nat_abs a - 1) u)) h.1 ∙
       ap (weight_given es i) (weighed us (nat_abs a) u d l y.0 y.1)
 
-  pub weights_hold : (es : List Entry) (old : List ℤ) → All (λ e. inside (pos n) e ≡ true) es → n ≤ length old →
+  pub weights_hold : (es : List Entry) (old : List ℤ) → AllByRecursion (λ e. inside (pos n) e ≡ true) es → n ≤ length old →
       get_or (certificate n es old) (i - 1) (pos 1) ≡ weight_given es i (pos 1)
   weights_hold es old h l =
       let e : length (replicate n (pos 1) ++ drop n old) ≡ length (replicate n (pos 1)) + length (drop n old) = length-append (replicate n (pos 1)) (drop n old) in
@@ -118,7 +118,7 @@ module _ (n : ℕ) where
   cells_long (Coefficient a b x ∷ es) cs = cells_long es (set cs (index n (nat_abs a) (nat_abs b)) x) ∙ length-set cs (index n (nat_abs a) (nat_abs b)) x
   cells_long (RightSide a x ∷ es) cs = cells_long es (set cs (index n (nat_abs a) (n + 1)) x) ∙ length-set cs (index n (nat_abs a) (n + 1)) x
 
-  pub cells_keep : (es : List Entry) (cs : List Range) → All (λ e. inside (pos n) e ≡ true) es → drop (n * (n + 1)) (put_cells n es cs) ≡ drop (n * (n + 1)) cs
+  pub cells_keep : (es : List Entry) (cs : List Range) → AllByRecursion (λ e. inside (pos n) e ≡ true) es → drop (n * (n + 1)) (put_cells n es cs) ≡ drop (n * (n + 1)) cs
   cells_keep [] cs h = refl
   cells_keep (Size m ∷ es) cs h = cells_keep es cs h.1
   cells_keep (Weight a u ∷ es) cs h = cells_keep es cs h.1
@@ -138,7 +138,7 @@ module _ (n : ℕ) where
   weights_long (RightSide a x ∷ es) us = weights_long es us
   weights_long (Weight a u ∷ es) us = weights_long es (set us (nat_abs a - 1) u) ∙ length-set us (nat_abs a - 1) u
 
-  pub weights_keep : (es : List Entry) (us : List ℤ) → All (λ e. inside (pos n) e ≡ true) es → drop n (put_weights es us) ≡ drop n us
+  pub weights_keep : (es : List Entry) (us : List ℤ) → AllByRecursion (λ e. inside (pos n) e ≡ true) es → drop n (put_weights es us) ≡ drop n us
   weights_keep [] us h = refl
   weights_keep (Size m ∷ es) us h = weights_keep es us h.1
   weights_keep (Coefficient a b x ∷ es) us h = weights_keep es us h.1

@@ -1,6 +1,6 @@
 -- How the data lines of a file are found by its trailer.
 use Rattle.std.proofs.Common.{◌≡◌, ℕ, zero, suc, ◌+◌, ◌-◌, ◌^◌, ◌<◌, ◌≤◌, Bool, true, false, cond, eqb, leb, List, [], ◌∷◌, ◌++◌, length, get_or, take, drop, ℤ, pos, negsuc, Some, None, codes, Option, sym, refl, ap, ◌∙◌, subst, append_assoc, arith}
-use Rattle.std.specs.List.{AllByRecursion as All, IsAfterLastMatch, count_by}
+use Rattle.std.specs.List.{AllByRecursion, IsAfterLastMatch, count_by}
 use Rattle.std.specs.Str.{bytes_eq}
 use Rattle.std.proofs.lemmas.Bool.{ne_eqb, le-leb, and_right}
 use Rattle.std.proofs.lemmas.List.{take-append-drop, length-take-le, length-append, length_push, take_at, drop_at, get_or-drop, get_or-take}
@@ -64,7 +64,7 @@ pub ended_long : (s : ℕ) (ps : List (List ℕ)) → length ps ≤ length (ende
 ended_long s [] = omega arith
 ended_long s (p ∷ ps) = omega (arith, length-append p (s ∷ ended s ps), ended_long s ps)
 
-all_push : (ps : List (List ℕ)) (p : List ℕ) → All (Free 10) ps → Free 10 p → All (Free 10) (ps ++ (p ∷ []))
+all_push : (ps : List (List ℕ)) (p : List ℕ) → AllByRecursion (Free 10) ps → Free 10 p → AllByRecursion (Free 10) (ps ++ (p ∷ []))
 all_push [] p f g = (g, tt)
 all_push (q ∷ ps) p f g = (f.0, all_push ps p f.1 g)
 
@@ -90,7 +90,7 @@ parts_of bs w l =
     by [] j = absurd (omega (arith, ap length j))
     by (p ∷ ps) j = omega arith
 
-    last_free : (ls : List (List ℕ)) → All (Free 10) ls → Free 10 (last ls)
+    last_free : (ls : List (List ℕ)) → AllByRecursion (Free 10) ls → Free 10 (last ls)
     last_free [] f = tt
     last_free (p ∷ []) f = f.0
     last_free (p ∷ (q ∷ ps)) f = last_free (q ∷ ps) f.1

@@ -1,7 +1,7 @@
 -- The whole file: remarks, data lines, trailer.
 use Rattle.std.specs.Prelude.{◌≡◌, ℕ, ◌+◌, ◌-◌, ◌≤◌, true, cond, ◌&&◌, List, [], ◌∷◌, ◌++◌, length, take, drop, ℤ, pos, negsuc, Some, None, codes, Option, Err, Result, ◌==◌, nat_le}
 use Rattle.std.specs.Str.{bytes_eq}
-use Rattle.std.specs.List.{AllByRecursion as All}
+use Rattle.std.specs.List.{AllByRecursion}
 use Rattle.balance.specs.declared.refusal.Refusal.{Refusal}
 use Rattle.balance.specs.declared.refusal.Refusal.TheVariants.{File}
 use Rattle.heat_file.specs.declared.line.Entry.{Entry}
@@ -17,7 +17,7 @@ trailer p k = codes "end" ++ spaced (pos p ∷ (pos k ∷ []))
 pub record Framed (file remarks : List ℕ) (lines : List (List ℕ)) : Type 0 where
   pub bytes : file ≡ remarks ++ ended 10 (lines ++ (trailer (length remarks) (length lines) ∷ []))
   pub whole : closed 10 remarks ≡ true
-  pub free : All (Free 10) lines
+  pub free : AllByRecursion (Free 10) lines
   pub short : length file ≤ 65535
 
 -- ---- how the lines are found

@@ -7,7 +7,7 @@ use Rattle.balance.specs.Ranges.{only}
 use Rattle.heat_file.specs.declared.line.Entry.{Entry}
 use Rattle.heat_file.specs.declared.line.Entry.TheVariants.{Size, Coefficient, RightSide, Weight}
 use Rattle.heat_file.specs.Lines.{option, parse_line}
-use Rattle.std.specs.List.{AllByRecursion as All}
+use Rattle.std.specs.List.{AllByRecursion}
 use Rattle.heat_file.specs.Cuts.{cut, closed}
 use Rattle.heat_file.specs.Checks.{size_of, inside}
 use Rattle.heat_file.specs.Files.{read}
@@ -75,4 +75,4 @@ pub record Good (file : List ℕ) (n : ℕ) (text : List ℕ) : Type 0 where
   pub counts : size (entries (cut 10 text)) ≡ n
   pub whole : closed 10 text ≡ true
   pub few : n ≤ 32
-  pub nodes : All (λ e. inside (pos n) e ≡ true) (entries (cut 10 text))
+  pub nodes : AllByRecursion (λ e. inside (pos n) e ≡ true) (entries (cut 10 text))

@@ -1,6 +1,6 @@
 -- Which entries make a file, and which bytes are a file of them; which line of a file is the first bad one.
 use Rattle.std.specs.Prelude.{◌≡◌, ℕ, ◌+◌, ◌≤◌, ◌⊎◌, true, false, List, [], ◌∷◌, ◌++◌, map, length, pos}
-use Rattle.std.specs.List.{AllByRecursion as All}
+use Rattle.std.specs.List.{AllByRecursion}
 use Rattle.balance.specs.declared.refusal.Refusal.{Refusal}
 use Rattle.balance.specs.declared.refusal.Refusal.TheVariants.{Shape, Size as SizeRefusal, Node, Order, Crossed}
 use Rattle.heat_file.specs.declared.line.Entry.{Entry}
@@ -20,10 +20,10 @@ Increasing k (e ∷ es) = (before k (key e) ≡ true) × Increasing (key e) es
 pub record WellFormed (n : ℕ) (entries : List Entry) : Type 0 where
   pub some : 1 ≤ n
   pub few : n ≤ 32
-  pub nodes : All (λ e. inside (pos n) e ≡ true) entries
+  pub nodes : AllByRecursion (λ e. inside (pos n) e ≡ true) entries
   pub order : Increasing (key (Size (pos n))) entries
-  pub ends : All (λ e. ordered e ≡ true) entries
-  pub brief : All Brief entries
+  pub ends : AllByRecursion (λ e. ordered e ≡ true) entries
+  pub brief : AllByRecursion Brief entries
 
 -- the bytes are remarks, the line of a size n, the lines of these entries, and the trailer
 pub record Holds (file : List ℕ) (n : ℕ) (entries : List Entry) : Type 0 where
@@ -66,7 +66,7 @@ pub record FirstBad (s : Standing) (p : ℕ) (lines : List (List ℕ)) (r : Refu
   pub bad : List ℕ
   pub rest : List (List ℕ)
   pub parts : lines ≡ map line good ++ (bad ∷ rest)
-  pub brief : All Brief good
+  pub brief : AllByRecursion Brief good
   pub stand : Chain s good
   pub fault : Fault (after_all s good) (p + length (ended 10 (map line good))) bad r
 

@@ -2,7 +2,7 @@
 use Rattle.std.specs.Prelude.{◌≡◌, ◌↔◌, ℕ, cond, ◌&&◌, List, [], ◌∷◌, ◌++◌, length, ℤ, pos, Some, None, codes, Option, ◌==◌, slice_index_or}
 use Rattle.std.specs.Fmt.{signed_decimal}
 use Rattle.std.specs.Str.{bytes_eq}
-use Rattle.std.specs.List.{AllByRecursion as All}
+use Rattle.std.specs.List.{AllByRecursion}
 use Rattle.balance.specs.Ranges.{range}
 use Rattle.heat_file.specs.declared.line.Entry.{Entry}
 use Rattle.heat_file.specs.declared.line.Entry.TheVariants.{Size, Coefficient, RightSide, Weight}
@@ -32,7 +32,7 @@ line e = tag e ++ spaced (fields e)
 
 -- every number of the entry has at most 13 digits
 abbrev pub Brief : Entry → Type 0
-Brief e = All Short (fields e)
+Brief e = AllByRecursion Short (fields e)
 
 -- f of what an option holds, d of none
 abbrev pub option : {X Y : Type 0} → Option X → Y → (X → Y) → Y

@@ -1,5 +1,5 @@
 ghost use Rattle.std.specs.Prelude.{◌≡◌, ◌+◌, ◌*◌, ◌<◌, ◌≤◌, true, [], ◌∷◌, length, pos, Err, MatchResult};
-ghost use Rattle.std.specs.List.{AllByRecursion as All};
+ghost use Rattle.std.specs.List.{AllByRecursion};
 ghost use Rattle.heat_file.specs.Cuts.{cut, closed};
 ghost use Rattle.heat_file.specs.Checks.{inside, told};
 ghost use Rattle.heat_file.specs.Files.{read};
@@ -77,7 +77,7 @@ fn good_lines(file: &[u8]) -> Result<(usize, &[u8]), Refusal>
 fn put_lines(lines: &[u8], size: usize, cells: &mut [Range], certificate: &mut [i64])
     requires are_whole { closed 10 lines.now ≡ true }
     requires has_few_nodes { size ≤ 32 }
-    requires has_its_nodes { All (λ e. inside (pos size) e ≡ true) (entries (cut 10 lines.now)) }
+    requires has_its_nodes { AllByRecursion (λ e. inside (pos size) e ≡ true) (entries (cut 10 lines.now)) }
     requires has_cells { size * (size + 1) ≤ length cells.old }
     requires has_weights { size ≤ length certificate.old }
     ensures puts_cells { cells.new ≡ put_cells size (entries (cut 10 lines.now)) cells.old }
