@@ -9,3 +9,5 @@ mod lengths;
 mod numbers;
 #[cfg(test)]
 mod refusals;
+#[cfg(test)]
+mod words;
