@@ -150,8 +150,14 @@ def report(file):
     return lines + ["rest yes" if rests else "rest no"]
 
 
-if __name__ == "__main__":
+# The bytes that a file is answered with.
+def answer(file):
     try:
-        print("\n".join(report(sys.stdin.buffer.read())))
+        lines = report(file)
     except Refused as refusal:
-        print(refusal)
+        lines = [str(refusal)]
+    return "".join(line + "\n" for line in lines).encode()
+
+
+if __name__ == "__main__":
+    sys.stdout.buffer.write(answer(sys.stdin.buffer.read()))
