@@ -130,6 +130,10 @@ module _ (op : ℤ → ℤ → ℤ) (x y : ℤ) (f : SFits w64 x) (g : SFits w64
       let l : r ≡ op x y = h.1 ∙ e in
       (k, ap (λ z. to_z w64 (of_z w64 z)) l ∙ to_z-of_z w64 (op x y) k)
 
+  -- computed without a test, where it fits
+  pub computed : SFits w64 (op x y) → to_z w64 (of_z w64 (op (to_z w64 (of_z w64 x)) (to_z w64 (of_z w64 y)))) ≡ op x y
+  computed h = (λ i. to_z w64 (of_z w64 (op (to_z-of_z w64 x f i) (to_z-of_z w64 y g i)))) ∙ to_z-of_z w64 (op x y) h
+
 -- a result that fits is answered
 pub answered : {T : Type 0} (o : Option T) (P : Type 0) (v : T) → SomeIff o P v → P → o ≡ Some v
 answered None P v h p = absurd (h p)

@@ -1,10 +1,10 @@
 ghost use Rattle.std.specs.Prelude.{◌≡◌, ◌^◌, map, ◌≤ℤ◌, IfSome};
-ghost use Rattle.balance.specs.Ranges.{Between};
+ghost use Rattle.balance.specs.Ranges.{Between, plus, times};
 ghost use Rattle.balance.specs.Meanings.{coefficient_answer, right_side_answer};
 ghost use Rattle.balance.specs.Rows.{found, term, row_sum};
 
 use super::cell::Cell;
-use super::range::Range;
+use super::range::{Range, spanned};
 use super::system::System;
 
 // The range of a coefficient, where its place answers.
@@ -29,6 +29,32 @@ pub(crate) const SMALL: Range = Range {
     upper: 137_438_953_472,
 };
 
+// A coefficient times the range of a node. (The limits of both keep the products, and 32 of them added, within 64 bits: nothing is tested here.)
+fn product(a: Range, x: Range) -> Range
+    requires coefficient_is_narrow { Between (2 ^ 20) a }
+    requires node_is_narrow { Between (2 ^ 37) x }
+    ensures is { result ≡ times a x }
+    ensures narrow { Between (2 ^ 57) result }
+{
+    let p = a.lower * x.lower;
+    let q = a.lower * x.upper;
+    let s = a.upper * x.lower;
+    let t = a.upper * x.upper;
+    spanned(p, q, s, t)
+}
+
+// What the columns before have added up to, and what one more adds.
+fn sum(before: Range, more: Range) -> Range
+    requires before_is_narrow { Between (2 ^ 62) before }
+    requires more_is_narrow { Between (2 ^ 57) more }
+    ensures { result ≡ plus before more }
+{
+    Range {
+        lower: before.lower + more.lower,
+        upper: before.upper + more.upper,
+    }
+}
+
 // What a column adds to the sum of a row.
 fn term<S: System>(system: &S, row: usize, without: usize, column: usize, x: Range) -> Option<Range>
     requires { x.lower ≤ℤ x.upper }
@@ -40,7 +66,7 @@ fn term<S: System>(system: &S, row: usize, without: usize, column: usize, x: Ran
     }
     let a = coefficient_range(system, row, column)?;
     if x.is_within(SMALL) {
-        a.checked_mul(x)
+        Some(product(a, x))
     } else {
         None
     }
@@ -55,10 +81,10 @@ pub fn row_sum<S: System, C: Cell>(system: &S, x: &[C], row: usize, without: usi
     if x.len() != system.size() {
         return None;
     }
-    let mut sum = Range::ZERO;
+    let mut total = Range::ZERO;
     for (j, cell) in x.iter().enumerate() {
         let more = term(system, row, without, j + 1, cell.tell())?;
-        sum = sum.checked_add(more)?;
+        total = sum(total, more);
     }
-    Some(sum)
+    Some(total)
 }

@@ -14,7 +14,7 @@ fn main(rt: HostRuntime) -> anyhow::Result<()> {
     let mut file = Vec::new(rt.alloc());
     rt.stdin().take(READ).read_to_end(&mut file)?;
     let mut report = [0; REPORT];
-    let length = report_file(rt.alloc(), &file, &mut report)??;
+    let length = report_file(&file, &mut report)?;
     rt.stdout().write_all(&report[..length])?;
     Ok(())
 }

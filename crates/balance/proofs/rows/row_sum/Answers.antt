@@ -1,7 +1,6 @@
 use Rattle.std.proofs.Common.{◌<◌, map, length, Some, None, sym, ap, ◌∙◌, arith}
 use borrow.Author.Differences.{ints}
 use Rattle.std.proofs.lemmas.List.{length-map}
-use Rattle.balance.specs.declared.range.Range.{Range}
 use Rattle.balance.specs.Rows.{terms}
 use Rattle.balance.proofs.RowSums.{sum_of_more, sum_of_stops, term_at, row_sum_is}
 use Rattle.balance.proofs.rows.row_sum.Goals as goal
@@ -16,15 +15,6 @@ returns-in_err-more-clause-is_the_sum_where_all_answer g c =
     let e = term_at m f x c.args.row c.args.without j c.index-x-j.result c.tell.result None (omega arith) c.index-x-j.is c.tell.ensures.tells_its_ends c.in_err-more.ensures.is in
     c.from_residual.ensures ∙ sym (row_sum_is m (map f x) c.args.row c.args.without None (omega (arith, length-map x f)) (sum_of_stops (terms m (map f x) c.args.row c.args.without) j (length (map f x)) (sym e) (omega (arith, length-map x f))))
 
-pub returns-in_err-sum-clause-is_the_sum_where_all_answer :
-    goal.returns-in_err-sum-clause-is_the_sum_where_all_answer
-returns-in_err-sum-clause-is_the_sum_where_all_answer g c =
-    let v = c.loop-j.invariant.1 in
-    let b = c.in_ok-more.ensures.narrow in
-    let few = (g.met.S.System.lawful c.args.system.now).few in
-    let l : c.loop-j.j < 32 = omega arith in
-    absurd (c.in_err-sum.ensures.is_the_sum_where_it_fits (omega (arith, ints), omega (arith, ints)))
-
 pub loop-j-preserved : goal.loop-j-preserved
 loop-j-preserved g c =
     let m = g.S.System.meaning c.args.system.now in
@@ -32,9 +22,13 @@ loop-j-preserved g c =
     let x = c.args.x.now in
     let j = c.loop-j.j in
     let e = term_at m f x c.args.row c.args.without j c.index-x-j.result c.tell.result (Some c.in_ok-more.more) (omega arith) c.index-x-j.is c.tell.ensures.tells_its_ends c.in_ok-more.ensures.is in
-    let p = c.in_ok-sum.ensures.is_the_sum_where_it_fits.1 in
     let v = c.loop-j.invariant.1 in
     let b = c.in_ok-more.ensures.narrow in
-    let lo = ap (λ (r : Range). r.lower) p in
-    let up = ap (λ (r : Range). r.upper) p in
-    (sum_of_more (terms m (map f x) c.args.row c.args.without) j c.loop-j.sum c.in_ok-more.more c.loop-j.invariant.0 (sym e) ∙ ap (λ (r : Range). Some r) (sym p), (omega (arith, ints), omega (arith, ints), omega (arith, ints)))
+    (sum_of_more (terms m (map f x) c.args.row c.args.without) j c.loop-j.total c.in_ok-more.more c.loop-j.invariant.0 (sym e) ∙ ap (λ r. Some r) (sym c.sum-total.ensures), rw c.sum-total.ensures (omega (arith, ints), omega (arith, ints), omega (arith, ints)))
+
+pub sum-total-requires-clause-before_is_narrow : goal.sum-total-requires-clause-before_is_narrow
+sum-total-requires-clause-before_is_narrow g c =
+    let v = c.loop-j.invariant.1 in
+    let few = (g.met.S.System.lawful c.args.system.now).few in
+    let l : c.loop-j.j < 32 = omega arith in
+    (omega (arith, ints), omega (arith, ints), omega (arith, ints))
