@@ -7,6 +7,7 @@ use std::fmt;
 
 // Two ends, both included. A plain record: `new` refuses crossed ends, but nobody is kept from writing them.
 #[derive(Clone, Copy, PartialEq, Eq, Default, Debug)]
+#[repr(C)]
 pub struct Range {
     pub lower: i64,
     pub upper: i64,
