@@ -1,4 +1,4 @@
-use Rattle.std.proofs.Common.{◌≡◌, IfOk, OnOk, subst}
+use Rattle.std.proofs.Common.{◌≡◌, subst}
 use Rattle.heat_file.specs.Files.{read}
 use Rattle.heat_file.specs.Reports.{length_or_no_room, put_in_front}
 use Rattle.file_box.proofs.ReadFiles.{filled, refused}
@@ -7,12 +7,12 @@ use Rattle.file_box.proofs.file.report_file.Goals as goal
 pub returns-in-Ok-clause-answers : goal.returns-in-Ok-clause-answers
 returns-in-Ok-clause-answers c =
     let e = c.in-Ok.ensures in
-    subst (λ t. IfOk c.report_table.result (λ r. r ≡ length_or_no_room t c.args.out.now)) (filled (read c.args.file.now) c.in-Ok.size c.read_file.new.cells c.read_file.new.certificate e.answers e.fills_the_cells e.fills_the_certificate) c.report_table.ensures.answers
+    subst (λ t. c.report_table.result ≡ length_or_no_room t c.args.out.now) (filled (read c.args.file.now) c.in-Ok.size c.read_file.new.cells c.read_file.new.certificate e.answers e.fills_the_cells e.fills_the_certificate) c.report_table.ensures.answers
 
 pub returns-in-Ok-clause-writes_the_report_and_keeps_the_rest : goal.returns-in-Ok-clause-writes_the_report_and_keeps_the_rest
 returns-in-Ok-clause-writes_the_report_and_keeps_the_rest c =
     let e = c.in-Ok.ensures in
-    subst (λ t. OnOk c.report_table.result (c.report_table.new.out ≡ put_in_front t c.args.out.now)) (filled (read c.args.file.now) c.in-Ok.size c.read_file.new.cells c.read_file.new.certificate e.answers e.fills_the_cells e.fills_the_certificate) c.report_table.ensures.writes_the_report_and_keeps_the_rest
+    subst (λ t. c.report_table.new.out ≡ put_in_front t c.args.out.now) (filled (read c.args.file.now) c.in-Ok.size c.read_file.new.cells c.read_file.new.certificate e.answers e.fills_the_cells e.fills_the_certificate) c.report_table.ensures.writes_the_report_and_keeps_the_rest
 
 pub returns-in-Err-clause-answers : goal.returns-in-Err-clause-answers
 returns-in-Err-clause-answers c =
