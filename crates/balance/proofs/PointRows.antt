@@ -1,15 +1,15 @@
 -- The test of a point, and the sums of its rows.
-use Rattle.std.proofs.Common.{◌≡◌, ℕ, zero, suc, ◌-◌, ◌^◌, ◌<◌, ◌≤◌, Bool, true, false, T, eqb, ◌↔◌, List, map, length, ℤ, pos, negsuc, neg_ℤ, nat_abs, Some, None, Ok, Option, sym, refl, ap, ◌∙◌, subst, arith}
+use Rattle.std.proofs.Common.{◌≡◌, ℕ, zero, suc, ◌-◌, ◌^◌, ◌<◌, ◌≤◌, Bool, true, false, T, eqb, nat_lt, get_or, slice_index_or, ◌↔◌, List, map, length, ℤ, pos, negsuc, neg_ℤ, nat_abs, Some, None, Ok, Option, sym, refl, ap, ◌∙◌, subst, arith}
 use borrow.Author.Differences.{ints}
 use Rattle.std.proofs.lemmas.Bool.{eq-eqb, ne_eqb, eqb-true}
-use Rattle.std.proofs.lemmas.List.{get_or-map, length-map}
+use Rattle.std.proofs.lemmas.List.{get_or-map, get_or_past, length-map}
 use Rattle.balance.specs.declared.range.Range.{Range}
 use Rattle.balance.specs.declared.refusal.Refusal.{Refusal}
 use Rattle.balance.specs.declared.refusal.Refusal.TheVariants.{Point as PointRefusal}
 use Rattle.balance.specs.Ranges.{only, Between, Fits64, times, total, meets}
 use Rattle.balance.specs.Meanings.{Place, told, refused, Meaning, IsNode, Told, Lawful, EveryPlaceAnswers, answer, coefficient_answer, right_side_answer, range_at}
 use Rattle.balance.specs.Places.{first, first_refusal, every}
-use Rattle.balance.specs.Rows.{at, found, small, terms, sum_of, row_sum}
+use Rattle.balance.specs.Rows.{AllBetween, at, found, terms, sum_of, row_sum}
 use Rattle.balance.specs.Points.{numerator, between, numerator_refusal, point_refusal, row, fits, possible_answer, point, Possible, TellsPossible}
 use Rattle.balance.proofs.Entries.{test_passed}
 use Rattle.balance.proofs.Searches.{none_of, coefficient_at, right_side_at}
@@ -63,14 +63,31 @@ sum_of_all : (f : ℕ → Option Range) (g : ℕ → Range) (n : ℕ) → ((j : 
 sum_of_all f g zero h = refl
 sum_of_all f g (suc n) h = rw (sum_of_all f g n (λ j a b. h j a (omega arith)), h (suc n) (omega arith) (omega arith))
 
+-- no numerator goes beyond its limit
+pub numerators_narrow : (n : ℕ) (ps : List ℤ) (q : ℤ) → Allowed n ps q → AllBetween (2 ^ 37) (map only ps)
+numerators_narrow n ps q allows k = by (nat_lt k (length ps)) refl
+  where
+    one : (p : ℤ) → numerator_between p ≡ true → Between (2 ^ 37) (only p)
+    one p h = (grind (arith, ints), omega (arith, ints), grind (arith, ints))
+
+    by : (t : Bool) → nat_lt k (length ps) ≡ t → Between (2 ^ 37) (slice_index_or (map only ps) k (only (pos 0)))
+    by true e =
+        let l : k < length ps = grind (arith, e) in
+        let b : suc k - 1 ≡ k = omega arith in
+        let p : numerator_between (get_or ps k (pos 0)) ≡ true = subst (λ j. numerator_between (get_or ps j (pos 0)) ≡ true) b (allows.numerators (suc k) (omega arith) (omega (arith, allows.count))) in
+        subst (Between (2 ^ 37)) (sym (get_or-map only ps k (pos 0) (only (pos 0)) l)) (one _ p)
+    by false e =
+        let b : length ps ≤ k = grind (arith, e) in
+        let l : length (map only ps) ≤ k = omega (arith, length-map ps only) in
+        subst (Between (2 ^ 37)) (sym (get_or_past (map only ps) k (only (pos 0)) l)) (one (pos 0) refl)
+
 module _ (m : Meaning) (answers : EveryPlaceAnswers m) (ps : List ℤ) (q : ℤ) (allows : Allowed m.size ps q) (i : ℕ) (node : IsNode m i) where
   term_there : (j : ℕ) → 1 ≤ j → j ≤ m.size → terms m (map only ps) i 0 j ≡ Some (times (range_at (m.coefficient i j)) (only (numerator ps j)))
   term_there j a b =
       let z : eqb j 0 ≡ false = ne_eqb j 0 (λ e. omega arith) in
       let x : at (map only ps) j ≡ only (numerator ps j) = get_or-map only ps (j - 1) (pos 0) (only (pos 0)) (omega (arith, allows.count)) in
-      let s : small (only (numerator ps j)) ≡ true = allows.numerators j a b in
       let f : found (coefficient_answer m i j) ≡ Some (range_at (m.coefficient i j)) = ap found (coefficient_at m i j node (a, b)) ∙ answer_found (m.coefficient i j) (answers.coefficients i j node (a, b)) in
-      rw (z, x, f, s)
+      rw (z, x, f)
 
   pub row_there : row_sum m (map only ps) i 0 ≡ Some (row m (numerator ps) i)
   row_there =

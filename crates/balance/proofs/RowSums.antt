@@ -1,24 +1,19 @@
 -- What an answer says of its place, and the sum of a row term by term.
-use Rattle.std.proofs.Common.{◌≡◌, ℕ, zero, suc, ◌+◌, ◌-◌, ◌^◌, ◌<◌, true, false, eqb, List, map, length, get_or, pos, ◌≤ℤ◌, Some, None, Option, sym, refl, ap, ◌∙◌, subst, arith}
+use Rattle.std.proofs.Common.{◌≡◌, ℕ, zero, suc, ◌+◌, ◌-◌, ◌<◌, true, false, eqb, List, map, length, get_or, pos, Some, None, Option, sym, refl, ap, ◌∙◌, subst, arith}
 use native.Mathlib.Decide.{ℕ_discrete}
-use borrow.Author.Differences.{ints}
 use Rattle.std.proofs.lemmas.Bool.{eq-eqb, ne_eqb}
 use Rattle.std.proofs.lemmas.List.{get_or-map}
 use Rattle.balance.specs.declared.range.Range.{Range}
 use Rattle.balance.specs.Ranges.{only, Between, plus, times}
 use Rattle.balance.specs.Meanings.{Meaning, coefficient_answer}
-use Rattle.balance.specs.Rows.{found, small, term, added, sum_of, at, terms, row_sum}
+use Rattle.balance.specs.Rows.{AllBetween, found, term, added, sum_of, at, terms, row_sum}
 
 -- ---- an answer, and the limits of its place
 
 -- ---- terms
 
--- no end beyond ±2^37, as the code and the definition test it
-pub small_between : (x : Range) → small x ≡ true → x.lower ≤ℤ x.upper → Between (2 ^ 37) x
-small_between x h o = (grind (arith, ints), o, grind (arith, ints))
-
-pub term_is : (m : Meaning) (i without j : ℕ) (x a : Range) (o : Option Range) → (j ≡ without → ⊥) → Some a ≡ found (coefficient_answer m i j) → small x ≡ true → o ≡ Some (times a x) → o ≡ term m i without j x
-term_is m i without j x a o n e s p = let t : eqb j without ≡ false = ne_eqb j without n in rw (t, sym e, s, p)
+pub term_is : (m : Meaning) (i without j : ℕ) (x a : Range) (o : Option Range) → (j ≡ without → ⊥) → Some a ≡ found (coefficient_answer m i j) → o ≡ Some (times a x) → o ≡ term m i without j x
+term_is m i without j x a o n e p = let t : eqb j without ≡ false = ne_eqb j without n in rw (t, sym e, p)
 
 -- ---- sums of terms
 
@@ -46,6 +41,10 @@ pub at_cell : {C : Type 0} (ends : C → Range) (x : List C) (j : ℕ) (c : C) �
 at_cell ends x j c h e =
     let k : j + 1 - 1 ≡ j = omega arith in
     ap (λ n. get_or (map ends x) n (only (pos 0))) k ∙ get_or-map ends x j c (only (pos 0)) h ∙ ap ends (sym e)
+
+-- what a cell tells keeps the limit that all keep
+pub cell_narrow : {C : Type 0} (ends : C → Range) (x : List C) (limit j : ℕ) (c : C) (r : Range) → AllBetween limit (map ends x) → j < length x → c ≡ get_or x j c → r ≡ ends c → Between limit r
+cell_narrow ends x limit j c r all h e t = subst (Between limit) (get_or-map ends x j c (only (pos 0)) h ∙ ap ends (sym e) ∙ sym t) (all j)
 
 -- the term of a cell is the row's term there
 pub term_at : {C : Type 0} (m : Meaning) (ends : C → Range) (x : List C) (i without j : ℕ) (c : C) (r : Range) (o : Option Range) → j < length x → c ≡ get_or x j c → r ≡ ends c → o ≡ term m i without (j + 1) r → o ≡ terms m (map ends x) i without (j + 1)

@@ -1,8 +1,8 @@
 -- The sum of a row: its coefficients times the ranges of the nodes.
-use Rattle.std.specs.Prelude.{ℕ, zero, suc, ◌-◌, ◌^◌, Bool, cond, List, length, ℤ, pos, Some, None, Ok, Err, Option, Result, ◌==◌, slice_index_or}
+use Rattle.std.specs.Prelude.{ℕ, zero, suc, ◌-◌, cond, List, length, ℤ, pos, Some, None, Ok, Err, Option, Result, ◌==◌, slice_index_or}
 use Rattle.balance.specs.declared.range.Range.{Range}
 use Rattle.balance.specs.declared.refusal.Refusal.{Refusal}
-use Rattle.balance.specs.Ranges.{range, only, within, limits, plus, times}
+use Rattle.balance.specs.Ranges.{range, only, Between, plus, times}
 use Rattle.balance.specs.Meanings.{Meaning, coefficient_answer}
 
 -- node j's range in a list of ranges
@@ -14,13 +14,13 @@ abbrev pub found : Result (ℤ × ℤ) Refusal → Option Range
 found (Ok ends) = Some (range ends.0 ends.1)
 found (Err e) = None
 
--- no end beyond ±2^37, so that 32 products with coefficients add up within 64 bits
-abbrev pub small : Range → Bool
-small x = within x (limits (2 ^ 37))
+-- each range in order, and no end beyond ±limit
+abbrev pub AllBetween : ℕ → List Range → Type 0
+AllBetween limit xs = (k : ℕ) → Between limit (slice_index_or xs k (only (pos 0)))
 
 abbrev pub product : Option Range → Range → Option Range
 product None x = None
-product (Some a) x = cond (small x) (Some (times a x)) None
+product (Some a) x = Some (times a x)
 
 -- what column j of row i adds for a node's range x: coefficient × x, and [0, 0] for the column that is left out
 abbrev pub term : Meaning → ℕ → ℕ → ℕ → Range → Option Range

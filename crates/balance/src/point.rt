@@ -7,8 +7,14 @@ use super::cell::Cell;
 use super::places::every_place_answers;
 use super::range::Range;
 use super::refusal::Refusal;
-use super::rows::{SMALL, right_side_range, row_sum};
+use super::rows::{Nodes, right_side_range, row_sum};
 use super::system::System;
+
+// A numerator lies within ±2^37.
+const NUMERATORS: Range = Range {
+    lower: -137_438_953_472,
+    upper: 137_438_953_472,
+};
 
 // A denominator lies in 1 to 2^20.
 const DENOMINATORS: Range = Range {
@@ -50,7 +56,7 @@ impl<'a> Point<'a> {
         if numerators.len() != size || !DENOMINATORS.contains(denominator) {
             return Err(Refusal::Point { place: 0 });
         }
-        match SMALL.first_outside(numerators) {
+        match NUMERATORS.first_outside(numerators) {
             Some(j) => Err(Refusal::Point { place: j + 1 }),
             None => Ok(Point {
                 numerators,
@@ -75,7 +81,10 @@ fn row_fits<S: System>(system: &S, point: &Point, row: usize) -> Option<bool>
     requires row_is_a_node { IsNode (S.meaning system.now) row }
     ensures { result ≡ Some (fits (S.meaning system.now) (numerator point.now.numerators.now) point.now.denominator row) }
 {
-    let sum = row_sum(system, point.numerators, row, 0)?;
+    let nodes = Nodes {
+        cells: point.numerators,
+    };
+    let sum = row_sum(system, &nodes, row, 0)?;
     let side = right_side_range(system, row)?;
     let scaled = side.checked_mul(point.denominator.tell())?;
     Some(sum.meets(scaled))

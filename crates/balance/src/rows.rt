@@ -1,7 +1,7 @@
-ghost use Rattle.std.specs.Prelude.{◌≡◌, ◌^◌, map, ◌≤ℤ◌, IfSome};
+ghost use Rattle.std.specs.Prelude.{◌≡◌, ◌^◌, map, IfSome};
 ghost use Rattle.balance.specs.Ranges.{Between, plus, times};
 ghost use Rattle.balance.specs.Meanings.{coefficient_answer, right_side_answer};
-ghost use Rattle.balance.specs.Rows.{found, term, row_sum};
+ghost use Rattle.balance.specs.Rows.{AllBetween, found, term, row_sum};
 
 use super::cell::Cell;
 use super::range::{Range, spanned};
@@ -23,13 +23,14 @@ pub fn right_side_range<S: System>(system: &S, row: usize) -> Option<Range>
     system.right_side(row).ok().map(Range::from)
 }
 
-// No number of a node goes beyond ±2^37 in the sum of a row.
-pub(crate) const SMALL: Range = Range {
-    lower: -137_438_953_472,
-    upper: 137_438_953_472,
-};
+// The cells that stand for the nodes in a row, none beyond ±2^37: so their products with coefficients, and 32 of those added, stay within 64 bits.
+#[derive(Drop)]
+pub struct Nodes<'a, C: Cell> {
+    pub cells: &'a [C],
+    ghost narrow: { AllBetween (2 ^ 37) (map C.Cell.ends cells.now) },
+}
 
-// A coefficient times the range of a node. (The limits of both keep the products, and 32 of them added, within 64 bits: nothing is tested here.)
+// A coefficient times the range of a node.
 fn product(a: Range, x: Range) -> Range
     requires coefficient_is_narrow { Between (2 ^ 20) a }
     requires node_is_narrow { Between (2 ^ 37) x }
@@ -57,7 +58,7 @@ fn sum(before: Range, more: Range) -> Range
 
 // What a column adds to the sum of a row.
 fn term<S: System>(system: &S, row: usize, without: usize, column: usize, x: Range) -> Option<Range>
-    requires { x.lower ≤ℤ x.upper }
+    requires { Between (2 ^ 37) x }
     ensures is { result ≡ term (S.meaning system.now) row without column x }
     ensures narrow { IfSome result (Between (2 ^ 57)) }
 {
@@ -65,24 +66,21 @@ fn term<S: System>(system: &S, row: usize, without: usize, column: usize, x: Ran
         return Some(Range::ZERO);
     }
     let a = coefficient_range(system, row, column)?;
-    if x.is_within(SMALL) {
-        Some(product(a, x))
-    } else {
-        None
-    }
+    Some(product(a, x))
 }
 
 // (Column 0 is no column, so that 0 leaves out none: the definition counts as the code does.)
-// The sum of a row over the ranges of all nodes, without one column (0: with every column), where each coefficient in it answers and no range is too large.
-pub fn row_sum<S: System, C: Cell>(system: &S, x: &[C], row: usize, without: usize) -> Option<Range>
-    ensures is_the_sum_where_all_answer { result ≡ row_sum (S.meaning system.now) (map C.Cell.ends x.now) row without }
+// The sum of a row over the ranges of all nodes, without one column (0: with every column), where each coefficient in it answers.
+pub fn row_sum<S: System, C: Cell>(system: &S, nodes: &Nodes<C>, row: usize, without: usize) -> Option<Range>
+    ensures is_the_sum_where_all_answer { result ≡ row_sum (S.meaning system.now) (map C.Cell.ends nodes.now.cells.now) row without }
     ensures keeps_the_limit { IfSome result (Between (2 ^ 62)) }
 {
-    if x.len() != system.size() {
+    let cells = nodes.cells;
+    if cells.len() != system.size() {
         return None;
     }
     let mut total = Range::ZERO;
-    for (j, cell) in x.iter().enumerate() {
+    for (j, cell) in cells.iter().enumerate() {
         let more = term(system, row, without, j + 1, cell.tell())?;
         total = sum(total, more);
     }

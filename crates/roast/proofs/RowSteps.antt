@@ -1,19 +1,19 @@
 -- A row step as the code makes it: from the sum of the row, the right side and the diagonal.
-use Rattle.std.proofs.Common.{◌≡◌, ℕ, zero, suc, ◌-◌, ◌^◌, ◌<◌, ◌≤◌, Bool, true, false, cond, eqb, [], ◌∷◌, map, length, ℤ, ◌≤ℤ◌, Some, None, sym, refl, ap, ◌∙◌, subst, ap₂, arith}
+use Rattle.std.proofs.Common.{◌≡◌, ℕ, zero, suc, ◌^◌, ◌<◌, ◌≤◌, Bool, true, false, cond, eqb, slice_index_or, [], ◌∷◌, map, length, ℤ, pos, ◌≤ℤ◌, Some, None, sym, refl, ap, ◌∙◌, subst, ap₂, arith}
 use native.Mathlib.Decide.{ℕ_discrete}
 use lib.Signed.{le_z}
 use borrow.Author.Differences.{ints}
 use Rattle.std.proofs.lemmas.Bool.{eq-eqb, ne_eqb}
 use Rattle.balance.specs.declared.range.Range.{Range}
-use Rattle.balance.specs.Ranges.{Ordered, Between, plus, minus, times, total}
+use Rattle.balance.specs.Ranges.{only, Ordered, Between, plus, minus, times, total}
 use Rattle.balance.specs.Cells.{range_ends}
 use Rattle.balance.specs.Meanings.{Place, told, refused, Meaning, IsNode, answer, coefficient_answer, right_side_answer, range_at, coefficient_range, right_side_range}
 use Rattle.balance.specs.Places.{every}
 use Rattle.balance.specs.Rows as rows
-use Rattle.balance.specs.Rows.{at, found, small, added, sum_of, row_sum}
+use Rattle.balance.specs.Rows.{AllBetween, at, found, added, sum_of, row_sum}
 use Rattle.balance.proofs.Searches.{coefficient_at, right_side_at}
 use Rattle.roast.specs.Rounding.{holds_zero, quotient, shared}
-use Rattle.roast.specs.Narrowing.{Box, HasNode, AllBetween, is_told, row_answers, term, numerator, narrowed}
+use Rattle.roast.specs.Narrowing.{Box, HasNode, is_told, row_answers, term, numerator, narrowed}
 use Rattle.roast.proofs.Boxes.{nothing}
 
 -- ---- a box of ranges in order tells itself
@@ -31,8 +31,11 @@ told_itself (x ∷ xs) h = ap₂ (λ y ys. y ∷ ys) (ordered_told x (h zero).1)
 pub row_told : (m : Meaning) (xs ys : Box) (i : ℕ) → ys ≡ xs → AllBetween (2 ^ 30) xs → row_sum m (map range_ends ys) i i ≡ row_sum m xs i i
 row_told m xs ys i e h = ap (λ zs. row_sum m zs i i) (ap (map range_ends) e ∙ told_itself xs h)
 
-narrow_small : (x : Range) → Between (2 ^ 30) x → small x ≡ true
-narrow_small x h = let l = h.0 in let u = h.2 in grind (arith, ints)
+-- so it is one that the sum of a row takes
+pub nodes_narrow : (xs ys : Box) → ys ≡ xs → AllBetween (2 ^ 30) xs → AllBetween (2 ^ 37) (map range_ends ys)
+nodes_narrow xs ys e h k =
+    let n = subst (λ zs. Between (2 ^ 30) (slice_index_or zs k (only (pos 0)))) (sym (ap (map range_ends) e ∙ told_itself xs h)) (h k) in
+    (omega (arith, ints), n.1, omega (arith, ints))
 
 -- ---- the sum of a row without the diagonal
 
@@ -40,14 +43,14 @@ narrow_small x h = let l = h.0 in let u = h.2 in grind (arith, ints)
 abbrev others_told : Meaning → ℕ → ℕ → Bool
 others_told m i k = every (λ j. cond (eqb j i) true (is_told (m.coefficient i j))) k
 
-term_by : (p : Place) (x : Range) → small x ≡ true → rows.product (found (answer p)) x ≡ cond (is_told p) (Some (times (range_at p) x)) None
-term_by (told r) x s = rw s
-term_by (refused a b c) x s = refl
+term_by : (p : Place) (x : Range) → rows.product (found (answer p)) x ≡ cond (is_told p) (Some (times (range_at p) x)) None
+term_by (told r) x = refl
+term_by (refused a b c) x = refl
 
 module _ (m : Meaning) (xs : Box) (i : ℕ) (node : IsNode m i) (narrow : AllBetween (2 ^ 30) xs) where
   one_term : (j : ℕ) → IsNode m j → (t : Bool) → cond t (Some nothing) (rows.product (found (coefficient_answer m i j)) (at xs j)) ≡ cond (cond t true (is_told (m.coefficient i j))) (Some (cond t nothing (times (coefficient_range m i j) (at xs j)))) None
   one_term j n true = refl
-  one_term j n false = ap (λ a. rows.product (found a) (at xs j)) (coefficient_at m i j node n) ∙ term_by (m.coefficient i j) (at xs j) (narrow_small (at xs j) (narrow (j - 1)))
+  one_term j n false = ap (λ a. rows.product (found a) (at xs j)) (coefficient_at m i j node n) ∙ term_by (m.coefficient i j) (at xs j)
 
   add_terms : (s t : Bool) (r x : Range) → added (cond s (Some r) None) (cond t (Some x) None) ≡ cond (cond s t false) (Some (plus r x)) None
   add_terms true true r x = refl

@@ -1,7 +1,7 @@
 -- Row steps, rounds and readings on a box, by the meaning of the system alone.
-use Rattle.std.specs.Prelude.{ℕ, zero, suc, ◌+◌, ◌-◌, Bool, true, false, cond, not, List, length, ℤ, pos, Some, None, Option, ◌==◌, int_le, slice_index_or, slice_set}
+use Rattle.std.specs.Prelude.{ℕ, zero, suc, ◌+◌, ◌-◌, Bool, true, false, cond, not, List, length, ℤ, pos, Some, None, Option, ◌==◌, int_le, slice_set}
 use Rattle.balance.specs.declared.range.Range.{Range}
-use Rattle.balance.specs.Ranges.{only, Between, minus, times, total}
+use Rattle.balance.specs.Ranges.{only, minus, times, total}
 use Rattle.balance.specs.Meanings.{Place, told, refused, Meaning, Among, coefficient_range, right_side_range}
 use Rattle.balance.specs.Places.{every}
 use Rattle.balance.specs.Rows.{at}
@@ -14,10 +14,6 @@ Box = List Range
 -- i is one of the nodes of the box
 abbrev pub HasNode : Box → ℕ → Type 0
 HasNode box i = Among (length box) i
-
--- each range in order, and no end beyond ±limit
-abbrev pub AllBetween : ℕ → Box → Type 0
-AllBetween limit box = (k : ℕ) → Between limit (slice_index_or box k (only (pos 0)))
 
 abbrev pub is_told : Place → Bool
 is_told (told r) = true

@@ -1,7 +1,7 @@
 ghost use Rattle.std.specs.Prelude.{◌≡◌, ◌-◌, ◌+◌, ◌^◌, ◌<◌, [], ◌∷◌, ◌++◌, length, slice_set};
 ghost use Rattle.balance.specs.Ranges.{Between};
-ghost use Rattle.balance.specs.Rows.{at};
-ghost use Rattle.roast.specs.Narrowing.{HasNode, AllBetween};
+ghost use Rattle.balance.specs.Rows.{at, AllBetween};
+ghost use Rattle.roast.specs.Narrowing.{HasNode};
 
 use balance::range::Range;
 use std::marker::Model;
@@ -18,7 +18,7 @@ pub struct Bounds {
 impl Model for Bounds {
     ghost use Rattle.std.specs.Prelude.{List, ◌≡◌, ◌^◌, ◌≤◌, length, take};
     ghost use Rattle.balance.specs.declared.range.Range.{Range};
-    ghost use Rattle.roast.specs.Narrowing.{AllBetween};
+    ghost use Rattle.balance.specs.Rows.{AllBetween};
 
     ghost Value = { List Range };
 

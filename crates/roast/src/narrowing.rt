@@ -11,7 +11,7 @@ use super::call::Reading;
 use super::rounding;
 use balance::range::Range;
 use balance::refusal::Refusal;
-use balance::rows::{coefficient_range, right_side_range, row_sum};
+use balance::rows::{Nodes, coefficient_range, right_side_range, row_sum};
 use balance::system::{System, check_node};
 
 impl Bounds {
@@ -21,7 +21,8 @@ impl Bounds {
         ensures is { result ≡ narrowed (S.meaning system.now) self.now node }
         ensures narrow { IfSome result (Between (2 ^ 30)) }
     {
-        let sum = row_sum(system, self.all(), node, node)?;
+        let nodes = Nodes { cells: self.all() };
+        let sum = row_sum(system, &nodes, node, node)?;
         let side = right_side_range(system, node)?;
         let diagonal = coefficient_range(system, node, node)?;
         if diagonal.contains(0) {

@@ -4,7 +4,7 @@ use Rattle.balance.specs.declared.range.Range.{Range}
 use Rattle.balance.specs.Ranges.{Between}
 use Rattle.roast.specs.Rounding.{quotient, shared}
 use Rattle.roast.proofs.Narrow.{shared_narrow}
-use Rattle.roast.proofs.RowSteps.{row_told, no_sum, leaves}
+use Rattle.roast.proofs.RowSteps.{row_told, nodes_narrow, no_sum, leaves}
 use Rattle.roast.proofs.bounds.Bounds.narrowed.Goals as goal
 
 pub returns-in_err-sum-clause-is : goal.returns-in_err-sum-clause-is
@@ -43,3 +43,6 @@ returns g c =
       is = c.shared.ensures.is ∙ (λ k. shared (c.at.ensures.is k) (q k)) ∙ sym f;
       narrow = shared_narrow (2 ^ 30) _ _ _ c.at.ensures.narrow c.shared.ensures.is;
     }
+
+pub invariant_of-nodes : goal.invariant_of-nodes
+invariant_of-nodes g c = record { narrow = nodes_narrow c.args.self.now _ c.all.ensures.is c.all.ensures.narrow }
