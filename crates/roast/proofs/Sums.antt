@@ -1,6 +1,9 @@
 -- Sums and largest numbers over the nodes 1 to n, and the node where a ratio is largest.
-use Rattle.std.proofs.Common.{◌≡◌, ℕ, zero, suc, ◌+◌, ◌-◌, ◌*◌, ◌<◌, ◌≤◌, max, Bool, true, false, cond, eqb, [], ◌∷◌, ◌++◌, length, get_or, All, fold, map, refl, ap, ◌∙◌, subst, ap₂, mul-le-mul_right, div-lt_iff_lt-mul, mul-le-mul_left, le_of_mul-le-mul_right, arith}
+use Rattle.std.proofs.Common.{◌≡◌, ℕ, zero, suc, ◌+◌, ◌-◌, ◌*◌, ◌<◌, ◌≤◌, max, Bool, true, false, cond, eqb, [], ◌∷◌, ◌++◌, length, get_or, All, fold, map, refl, ap, ◌∙◌, subst, ap₂, mul-le-mul_right, div-lt_iff_lt-mul, mul-le-mul_left, le_of_mul-le-mul_right, lt_of_mul-lt-mul_right, arith}
 use native.Mathlib.Decide.{dec_le}
+use Rattle.std.proofs.Math.Nat.{max-eq_right}
+use Rattle.std.proofs.lemmas.Grind.{div_ceil_times}
+use Rattle.std.specs.Int.{div_ceil}
 use Rattle.std.proofs.lemmas.List.{map-append, length_push, get_or_append_left, get_or_at}
 use Rattle.std.proofs.lemmas.List.Elements.{All-push}
 use Rattle.std.proofs.lemmas.List.Sums.{fold-append}
@@ -50,6 +53,18 @@ rounded_up_enough a d h = omega arith
 
 pub rounded_up_least : (a d z : ℕ) → 0 < d → a ≤ z * d → rounded_up a d ≤ z
 rounded_up_least a d z h k = let l = (div-lt_iff_lt-mul {x = a + (d - 1)} {y = suc z} h).1 (omega arith) in omega arith
+
+-- an end that falls short of a / d grows to it, rounded up
+pub rounded_up_above : (a d e : ℕ) → 0 < d → e * d < a → max e (rounded_up a d) ≡ rounded_up a d
+rounded_up_above a d e h k = let l : e * d < rounded_up a d * d = omega (arith, rounded_up_enough a d h) in let m : e ≤ rounded_up a d = omega (arith, lt_of_mul-lt-mul_right d {m = e} {n = rounded_up a d} l) in max-eq_right m
+
+pub div_ceil_is : (a d : ℕ) → 0 < d → div_ceil a d ≡ rounded_up a d
+div_ceil_is a d h =
+    let c = div_ceil_times a d h in
+    let l : rounded_up a d ≤ div_ceil a d = rounded_up_least a d (div_ceil a d) h c.0 in
+    let r : div_ceil a d * d < suc (rounded_up a d) * d = omega (arith, c.1, rounded_up_enough a d h) in
+    let u = lt_of_mul-lt-mul_right d {m = div_ceil a d} {n = suc (rounded_up a d)} r in
+    omega (arith, l, u)
 
 -- ---- lists
 
@@ -122,3 +137,11 @@ module _ (f u w : ℕ → ℕ) (n i : ℕ) (most : (j : ℕ) → In n j → f j 
       let all : S * u i ≤ f i * S' = replaced n (omega arith) in
       let own : v * f i ≤ r * u i = omega (arith, mul-le-mul_right (u i) row, ap (λ n. n * f i) e) in
       le_of_mul-le-mul_right {m = f j * v} {n = r * u j} {k = u i} (omega (arith, mul-le-mul_right v (most j h), mul-le-mul_right (u j) own)) p
+
+-- one column more
+pub sum_without_more : (f : ℕ → ℕ) (i k s r : ℕ) → 1 ≤ k → s ≡ sum_without f i (k - 1) → r ≡ cond (eqb k i) 0 (f k) → s + r ≡ sum_without f i (k + 1 - 1)
+sum_without_more f i zero s r h e t = absurd (omega arith)
+sum_without_more f i (suc j) s r h e t =
+    let p : suc j - 1 ≡ j = omega arith in
+    let q : suc j + 1 - 1 ≡ suc j = omega arith in
+    rw q (ap₂ (λ a b. a + b) (e ∙ ap (sum_without f i) p) t)

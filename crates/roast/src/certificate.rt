@@ -1,5 +1,5 @@
 // The test of a certificate, and the first box.
-ghost use Rattle.std.specs.Prelude.{◌≡◌, ℕ, ◌+◌, ◌-◌, ◌*◌, ◌^◌, ◌<◌, ◌≤◌, All, length, take, pos, ◌≤ℤ◌, None, Ok, Err, fold, max, unsigned_abs};
+ghost use Rattle.std.specs.Prelude.{◌≡◌, ◌==◌, cond, ℕ, ◌+◌, ◌-◌, ◌*◌, ◌^◌, ◌<◌, ◌≤◌, All, length, take, pos, ◌≤ℤ◌, None, Ok, Err, fold, max, unsigned_abs};
 ghost use Rattle.balance.specs.Ranges.{Between, limits};
 ghost use Rattle.balance.specs.Meanings.{IsNode, coefficient_range, right_side_range};
 ghost use Rattle.balance.specs.Places.{first, unless_refused};
@@ -94,13 +94,19 @@ struct Row {
 }
 
 impl Row {
-    // number × side / margin, rounded up.
-    fn end(self, number: u64) -> u64
+    // The larger of an end and number × side / margin, rounded up. (It divides only where the end grows: most rows leave it, and a division costs
+    // more than all else here.)
+    fn grown(self, number: u64, end: u64) -> u64
         requires number_is_small { number ≤ 2 ^ 20 }
         requires row_is_narrow { Narrow self }
-        ensures { result ≡ rounded_up (number * self.side) self.margin }
+        ensures { result ≡ max end (rounded_up (number * self.side) self.margin) }
     {
-        (number * self.side).div_ceil(self.margin)
+        let need = number * self.side;
+        if need <= end.saturating_mul(self.margin) {
+            end
+        } else {
+            need.div_ceil(self.margin)
+        }
     }
 }
 
@@ -110,7 +116,7 @@ fn largest_end(number: u64, rows: &[Row]) -> u64
     requires rows_are_narrow { All Narrow rows.now }
     ensures { result ≡ largest_end number rows.now }
 {
-    rows.iter().map(|row| row.end(number)).fold(0, u64::max)
+    rows.iter().fold(0, |end, row| row.grown(number, end))
 }
 
 // ±end.
@@ -143,6 +149,20 @@ impl<'a, S: System> Weighted<'a, S> {
         self.numbers[node - 1].unsigned_abs()
     }
 
+    // A coefficient's magnitude times its column's number; 0 at the diagonal.
+    fn other(&self, row: usize, column: usize) -> u64
+        requires row_is_a_node { IsNode (S.meaning self.now.system.now) row }
+        requires column_is_a_node { IsNode (S.meaning self.now.system.now) column }
+        ensures is { result ≡ cond (column == row) 0 (magnitude (coefficient_range (S.meaning self.now.system.now) row column) * u self.now.numbers.now column) }
+        ensures small { result ≤ 2 ^ 40 }
+    {
+        if column == row {
+            return 0;
+        }
+        let a = coefficient(self.system, row, column);
+        weight(magnitude(a), self.number(column))
+    }
+
     // The magnitudes of a row but its diagonal, each times its number.
     fn others(&self, row: usize) -> u64
         requires { IsNode (S.meaning self.now.system.now) row }
@@ -150,12 +170,8 @@ impl<'a, S: System> Weighted<'a, S> {
         ensures small { result ≤ 2 ^ 45 }
     {
         let mut sum = 0;
-        for (j, number) in self.numbers.iter().enumerate() {
-            if j + 1 == row {
-                continue;
-            }
-            let a = coefficient(self.system, row, j + 1);
-            sum += weight(magnitude(a), number.unsigned_abs());
+        for column in 1..=self.numbers.len() {
+            sum += self.other(row, column);
         }
         sum
     }
