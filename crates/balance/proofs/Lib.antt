@@ -1,6 +1,7 @@
 pub mod Integers
 pub mod Nodes
 pub mod Ranges
+pub mod Products
 pub mod FractionSums
 pub mod Picks
 pub mod PointRows

@@ -1,6 +1,7 @@
-ghost use Rattle.std.specs.Prelude.{◌≡◌, ◌^◌, map, IfSome};
+ghost use Rattle.std.specs.Prelude.{◌≡◌, ◌^◌, ◌≤◌, map, IfSome, unsigned_abs};
 ghost use Rattle.balance.specs.Ranges.{Between, plus, times};
 ghost use Rattle.balance.specs.Meanings.{coefficient_answer, right_side_answer};
+ghost use Rattle.balance.specs.Products.{scaled, times_above, times_below};
 ghost use Rattle.balance.specs.Rows.{AllBetween, found, term, row_sum};
 
 use super::cell::Cell;
@@ -30,18 +31,67 @@ pub struct Nodes<'a, C: Cell> {
     ghost narrow: { AllBetween (2 ^ 37) (map C.Cell.ends cells.now) },
 }
 
-// A coefficient times the range of a node.
-fn product(a: Range, x: Range) -> Range
+// An end of a node times an end of a coefficient: the first of two where it is not below 0, and else the second.
+fn scaled(end: i64, above: i64, below: i64) -> i64
+    requires end_is_narrow { unsigned_abs end ≤ 2 ^ 37 }
+    requires above_is_narrow { unsigned_abs above ≤ 2 ^ 20 }
+    requires below_is_narrow { unsigned_abs below ≤ 2 ^ 20 }
+    ensures { result ≡ scaled end above below }
+{
+    if 0 <= end { above * end } else { below * end }
+}
+
+// A coefficient that is not below 0 times the range of a node.
+fn times_above(a: Range, x: Range) -> Range
     requires coefficient_is_narrow { Between (2 ^ 20) a }
     requires node_is_narrow { Between (2 ^ 37) x }
-    ensures is { result ≡ times a x }
-    ensures narrow { Between (2 ^ 57) result }
+    ensures { result ≡ times_above a x }
+{
+    Range {
+        lower: scaled(x.lower, a.lower, a.upper),
+        upper: scaled(x.upper, a.upper, a.lower),
+    }
+}
+
+// A coefficient that is not above 0 times the range of a node.
+fn times_below(a: Range, x: Range) -> Range
+    requires coefficient_is_narrow { Between (2 ^ 20) a }
+    requires node_is_narrow { Between (2 ^ 37) x }
+    ensures { result ≡ times_below a x }
+{
+    Range {
+        lower: scaled(x.upper, a.lower, a.upper),
+        upper: scaled(x.lower, a.upper, a.lower),
+    }
+}
+
+// Any coefficient times the range of a node.
+fn times_across(a: Range, x: Range) -> Range
+    requires coefficient_is_narrow { Between (2 ^ 20) a }
+    requires node_is_narrow { Between (2 ^ 37) x }
+    ensures { result ≡ times a x }
 {
     let p = a.lower * x.lower;
     let q = a.lower * x.upper;
     let s = a.upper * x.lower;
     let t = a.upper * x.upper;
     spanned(p, q, s, t)
+}
+
+// A coefficient times the range of a node. (Nearly all coefficients have one sign, and then two products are enough: most of a row's time is spent here.)
+fn product(a: Range, x: Range) -> Range
+    requires coefficient_is_narrow { Between (2 ^ 20) a }
+    requires node_is_narrow { Between (2 ^ 37) x }
+    ensures is { result ≡ times a x }
+    ensures narrow { Between (2 ^ 57) result }
+{
+    if 0 <= a.lower {
+        times_above(a, x)
+    } else if a.upper <= 0 {
+        times_below(a, x)
+    } else {
+        times_across(a, x)
+    }
 }
 
 // What the columns before have added up to, and what one more adds.
@@ -71,7 +121,12 @@ fn term<S: System>(system: &S, row: usize, without: usize, column: usize, x: Ran
 
 // (Column 0 is no column, so that 0 leaves out none: the definition counts as the code does.)
 // The sum of a row over the ranges of all nodes, without one column (0: with every column), where each coefficient in it answers.
-pub fn row_sum<S: System, C: Cell>(system: &S, nodes: &Nodes<C>, row: usize, without: usize) -> Option<Range>
+pub fn row_sum<S: System, C: Cell>(
+    system: &S,
+    nodes: &Nodes<C>,
+    row: usize,
+    without: usize,
+) -> Option<Range>
     ensures is_the_sum_where_all_answer { result ≡ row_sum (S.meaning system.now) (map C.Cell.ends nodes.now.cells.now) row without }
     ensures keeps_the_limit { IfSome result (Between (2 ^ 62)) }
 {

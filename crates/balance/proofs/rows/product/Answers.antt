@@ -1,17 +1,30 @@
-use Rattle.std.proofs.Common.{◌≡◌, ◌^◌, ◌*ℤ◌, ◌∙◌, sym, subst, arith, rules}
-use Rattle.balance.specs.Ranges.{Between, spanned, times}
-use Rattle.balance.proofs.Ranges.{computed, narrow_fits, products_fit, times_between_bounds}
+use Rattle.std.proofs.Common.{◌≡◌, ◌^◌, ◌∙◌, sym, subst, arith}
+use Rattle.std.proofs.lemmas.Int.{ints, to_z-of_z}
+use Rattle.balance.specs.declared.range.Range.{Range}
+use Rattle.balance.specs.Ranges.{Between, times}
+use Rattle.balance.proofs.Products.{above_is, below_is}
+use Rattle.balance.proofs.Ranges.{times_between_bounds}
 use Rattle.balance.proofs.rows.product.Goals as goal
 
-pub returns : goal.returns
-returns c =
+narrow : (a x r : Range) → Between (2 ^ 20) a → Between (2 ^ 37) x → r ≡ times a x → Between (2 ^ 57) r
+narrow a x r h k e = subst (Between (2 ^ 57)) (sym e) (times_between_bounds a x (2 ^ 20) (2 ^ 37) h k)
+
+pub returns-then-a-ge0 : goal.returns-then-a-ge0
+returns-then-a-ge0 c =
     let a = c.args.a in
     let x = c.args.x in
-    let b : Between (2 ^ 57) (times a x) = times_between_bounds a x (2 ^ 20) (2 ^ 37) c.requires.coefficient_is_narrow c.requires.node_is_narrow in
-    let fits = products_fit a x (narrow_fits (2 ^ 57) _ (omega arith) b) in
-    let p = computed ◌*ℤ◌ a.lower x.lower (search rules) (search rules) fits.0 in
-    let q = computed ◌*ℤ◌ a.lower x.upper (search rules) (search rules) fits.1 in
-    let s = computed ◌*ℤ◌ a.upper x.lower (search rules) (search rules) fits.2 in
-    let t = computed ◌*ℤ◌ a.upper x.upper (search rules) (search rules) fits.3 in
-    let e : c.spanned.result ≡ times a x = c.spanned.ensures ∙ (λ i. spanned (p i) (q i) (s i) (t i)) in
-    record { is = e; narrow = subst (Between (2 ^ 57)) (sym e) b }
+    let e : c.times_above.result ≡ times a x = c.times_above.ensures ∙ above_is a x c.requires.coefficient_is_narrow.1 c.requires.node_is_narrow.1 (grind (arith, ints, to_z-of_z)) in
+    record { is = e; narrow = narrow a x _ c.requires.coefficient_is_narrow c.requires.node_is_narrow e }
+
+pub returns-then-a-le0 : goal.returns-then-a-le0
+returns-then-a-le0 c =
+    let a = c.args.a in
+    let x = c.args.x in
+    let e : c.times_below.result ≡ times a x = c.times_below.ensures ∙ below_is a x c.requires.coefficient_is_narrow.1 c.requires.node_is_narrow.1 (grind (arith, ints, to_z-of_z)) in
+    record { is = e; narrow = narrow a x _ c.requires.coefficient_is_narrow c.requires.node_is_narrow e }
+
+pub returns-else-a-le0 : goal.returns-else-a-le0
+returns-else-a-le0 c = record {
+  is = c.times_across.ensures;
+  narrow = narrow c.args.a c.args.x _ c.requires.coefficient_is_narrow c.requires.node_is_narrow c.times_across.ensures;
+}

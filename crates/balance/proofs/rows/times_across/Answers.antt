@@ -1,0 +1,16 @@
+use Rattle.std.proofs.Common.{◌^◌, ◌*ℤ◌, ◌∙◌, arith, rules}
+use Rattle.balance.specs.Ranges.{Between, spanned, times}
+use Rattle.balance.proofs.Ranges.{computed, narrow_fits, products_fit, times_between_bounds}
+use Rattle.balance.proofs.rows.times_across.Goals as goal
+
+pub returns : goal.returns
+returns c =
+    let a = c.args.a in
+    let x = c.args.x in
+    let b : Between (2 ^ 57) (times a x) = times_between_bounds a x (2 ^ 20) (2 ^ 37) c.requires.coefficient_is_narrow c.requires.node_is_narrow in
+    let fits = products_fit a x (narrow_fits (2 ^ 57) _ (omega arith) b) in
+    let p = computed ◌*ℤ◌ a.lower x.lower (search rules) (search rules) fits.0 in
+    let q = computed ◌*ℤ◌ a.lower x.upper (search rules) (search rules) fits.1 in
+    let s = computed ◌*ℤ◌ a.upper x.lower (search rules) (search rules) fits.2 in
+    let t = computed ◌*ℤ◌ a.upper x.upper (search rules) (search rules) fits.3 in
+    c.spanned.ensures ∙ (λ i. spanned (p i) (q i) (s i) (t i))
