@@ -4,6 +4,7 @@
 ghost use Rattle.fitting.specs.Piles.{WorkedPiles};
 ghost use Rattle.fitting.specs.Worked.{WorkedDrums};
 
+mod chains;
 mod drums;
 mod piles;
 mod replays;
@@ -35,7 +36,8 @@ fn run(rt: &HostRuntime) -> anyhow::Result<()>
     slip_on_cells(rt)?;
     slip_on_points(rt)?;
     replays::run(rt)?;
-    piles::run(rt)
+    piles::run(rt)?;
+    chains::run(rt)
 }
 
 fn probe_table<C: Cell>(rt: &HostRuntime, drum: &Table<C>) -> anyhow::Result<()> {

@@ -127,14 +127,17 @@ const CELLS: [Range; 12] = [
     },
 ];
 
+// A certificate that passes for the drum.
+const ONES: [i64; 3] = [1, 1, 1];
+
 fn drum(heap: Global) -> anyhow::Result<Network> {
     Ok(Network::new(3, RECORDS.to_vec(heap)?)?)
 }
 
-// Opens a roast, makes rounds until one changes nothing, 64 at most, and asks for the ends.
-fn settled<S: System + Drop>(system: S) -> Result<[Range; 3], Refusal> {
+// Opens a roast of three nodes, makes rounds until one changes nothing, 64 at most, and asks for the ends.
+pub fn settled<S: System + Drop>(system: S, certificate: [i64; 3]) -> Result<[Range; 3], Refusal> {
     let mut roast = Roast::new(system);
-    roast.open(&[1, 1, 1])?;
+    roast.open(&certificate)?;
     for _ in 0..64 {
         if roast.round()? == 0 {
             break;
@@ -167,13 +170,13 @@ fn compare(
 
 pub fn run(rt: &HostRuntime) -> anyhow::Result<()> {
     let heap = rt.alloc();
-    let keyed_in = settled(Table::new(3, CELLS.to_vec(heap)?)?)?;
+    let keyed_in = settled(Table::new(3, CELLS.to_vec(heap)?)?, ONES)?;
     println!(rt; "a drum of three nodes as a network of links, beside its table")?;
-    compare(rt, settled(drum(heap)?)?, [1, 2, 3], keyed_in)?;
+    compare(rt, settled(drum(heap)?, ONES)?, [1, 2, 3], keyed_in)?;
     println!(rt; "the network under a row scaler and a renumbering (3, 1, 2)")?;
     let scaler = RowScaler::new(drum(heap)?, [2, -3, 5].to_vec(heap)?)?;
     let pile = Renumbering::new(scaler, [3, 1, 2].to_vec(heap)?)?;
-    compare(rt, settled(pile)?, [3, 1, 2], keyed_in)?;
+    compare(rt, settled(pile, ONES)?, [3, 1, 2], keyed_in)?;
     three_high(rt, keyed_in)?;
     slips(rt)
 }
@@ -185,7 +188,7 @@ fn three_high(rt: &HostRuntime, keyed_in: [Range; 3]) -> anyhow::Result<()> {
     let there = Renumbering::new(drum(heap)?, [3, 1, 2].to_vec(heap)?)?;
     let scaler = RowScaler::new(there, [-1, 7, -900].to_vec(heap)?)?;
     let back = Renumbering::new(scaler, [2, 3, 1].to_vec(heap)?)?;
-    compare(rt, settled(back)?, [1, 2, 3], keyed_in)
+    compare(rt, settled(back, ONES)?, [1, 2, 3], keyed_in)
 }
 
 fn slips(rt: &HostRuntime) -> anyhow::Result<()> {
