@@ -78,17 +78,18 @@ fn times_across(a: Range, x: Range) -> Range
     spanned(p, q, s, t)
 }
 
-// A coefficient times the range of a node. (Nearly all coefficients have one sign, and then two products are enough: most of a row's time is spent here.)
+// A coefficient times the range of a node. (Nearly all coefficients have one sign, most are below 0, and then two products are enough: a row spends
+// its time here.)
 fn product(a: Range, x: Range) -> Range
     requires coefficient_is_narrow { Between (2 ^ 20) a }
     requires node_is_narrow { Between (2 ^ 37) x }
     ensures is { result ≡ times a x }
     ensures narrow { Between (2 ^ 57) result }
 {
-    if 0 <= a.lower {
-        times_above(a, x)
-    } else if a.upper <= 0 {
+    if a.upper <= 0 {
         times_below(a, x)
+    } else if 0 <= a.lower {
+        times_above(a, x)
     } else {
         times_across(a, x)
     }
