@@ -7,11 +7,11 @@ pub mod Filling
 pub mod Checks
 pub mod Walking
 pub mod Trailers
-pub mod Putting
 pub mod Checking
 pub mod Frames
 pub mod GoodFiles
 pub mod Placing
+pub mod Putting
 pub mod FileLaws
 pub mod Runs
 pub mod Buffers

@@ -29,10 +29,13 @@ Tests {F = F} g b f = (x : ℕ) (r : Bool) (q : F) → CalledAt g f x r q → (q
 pub computes : {F : Type 0} (g : Mut F (Bor ℕ × Unit {0}) Bool) (b : ℕ) (f : F) → Tests g b f → ComputesKey g (λ c. eqb c b) f
 computes g b f tests = always_returns_same g (λ a r. r ≡ eqb a.0.now b) f (λ a r q k. let m = tests a.0.now r q (record { shown = a.0; shows = refl; called = k }) in (m.1, m.0))
 
+pub no_piece : {F : Type 0} (b : ℕ) (s : Split ℕ F) → split_done s ≡ true → pieces b s ≡ []
+no_piece b s d = ap (λ d. cond d [] (slice_split (λ c. eqb c b) (split_rest s))) d
+
 module _ {F : Type 0} (g : Mut F (Bor ℕ × Unit {0}) Bool) (b : ℕ) (s t : Split ℕ F) (tests : Tests g b (split_callee s)) where
   -- a call of `next` takes off the first piece, where there is one
   pub next_piece : (r : Option (Bor (List ℕ))) → split_steps g s r t → MatchOption r (pieces b s ≡ []) (λ x. pieces b s ≡ x.now ∷ pieces b t)
-  next_piece None k = ap (λ d. cond d [] (slice_split (λ c. eqb c b) (split_rest s))) k.0
+  next_piece None k = no_piece b s k.0
   next_piece (Some x) k =
       ap (λ d. cond d [] (slice_split (λ c. eqb c b) (split_rest s))) k.0 ∙
       first_part (λ c. eqb c b) (split_rest s) x.now (split_rest t) (split_done t) k.1 (k.2 (λ c. eqb c b) (computes g b (split_callee s) tests)).1

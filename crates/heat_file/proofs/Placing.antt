@@ -12,7 +12,7 @@ use Rattle.heat_file.specs.Checks.{inside}
 use Rattle.heat_file.specs.Filled.{index, put_cells, put_weights, cleared, cells, certificate}
 use Rattle.heat_file.specs.Laws.{range_given, weight_given}
 
-node_in : (n : ℕ) (z : ℤ) → contains (range (pos 1) (pos n)) z ≡ true → (1 ≤ nat_abs z) × (nat_abs z ≤ n)
+pub node_in : (n : ℕ) (z : ℤ) → contains (range (pos 1) (pos n)) z ≡ true → (1 ≤ nat_abs z) × (nat_abs z ≤ n)
 node_in n (pos m) h = by (leb 1 m) refl h
   where
     by : (b : Bool) → leb 1 m ≡ b → cond b (leb m n) false ≡ true → (1 ≤ m) × (m ≤ n)
@@ -31,7 +31,7 @@ index_same n i j a b p q r s t u e = elim (cases_order i a) [
   | inr g ↦ absurd (elim g [ inl h ↦ omega (arith, index_row n i j a b r s t p h) | inr h ↦ omega (arith, index_row n a b i j t u r q h) ])
 ]
 
-index_in : (n i j : ℕ) → 1 ≤ i → i ≤ n → 1 ≤ j → j ≤ n + 1 → index n i j < n * (n + 1)
+pub index_in : (n i j : ℕ) → 1 ≤ i → i ≤ n → 1 ≤ j → j ≤ n + 1 → index n i j < n * (n + 1)
 index_in n i j p q r s = let h : i - 1 + 1 ≤ n = omega arith in omega (arith, mul-le-mul_right (n + 1) h)
 
 module _ (n i j : ℕ) (p : 1 ≤ i) (q : i ≤ n) (r : 1 ≤ j) (s : j ≤ n + 1) where

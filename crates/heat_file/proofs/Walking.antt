@@ -40,14 +40,19 @@ pub record Walked (text : List ℕ) (from : ℕ) (s : Standing) (p : ℕ) (left 
   pub far : p + length (ended 10 left) ≡ from + length text
   pub same : told s.size (checked s p left) ≡ told (pos 0) (check from (cut 10 text))
 
-pub walk_start : (text : List ℕ) (from : ℕ) (left : List (List ℕ)) → closed 10 text ≡ true → 1 ≤ length text → left ≡ cut 10 text → Walked text from start from left
-walk_start text from left w l e =
-    let j : ended 10 left ≡ text = ap (ended 10) e ∙ ended_cut 10 text w in
-    record { few = (omega arith, omega arith); far = ap (λ u. from + length u) j; same = by left j ∙ ap (λ ls. told (pos 0) (check from ls)) e }
+pub checked_all : (text : List ℕ) (from : ℕ) (left : List (List ℕ)) → closed 10 text ≡ true → 1 ≤ length text → left ≡ cut 10 text → checked start from left ≡ check from (cut 10 text)
+checked_all text from left w l e = by left (ap (ended 10) e ∙ ended_cut 10 text w) ∙ ap (check from) e
   where
-    by : (ls : List (List ℕ)) → ended 10 ls ≡ text → told (pos 0) (checked start from ls) ≡ told (pos 0) (check from ls)
+    by : (ls : List (List ℕ)) → ended 10 ls ≡ text → checked start from ls ≡ check from ls
     by [] j = absurd (omega (arith, ap length j))
     by (m ∷ ls) j = refl
+
+pub walk_start : (text : List ℕ) (from : ℕ) (left : List (List ℕ)) → closed 10 text ≡ true → 1 ≤ length text → left ≡ cut 10 text → Walked text from start from left
+walk_start text from left w l e = record {
+  few = (omega arith, omega arith);
+  far = ap (λ u. from + length u) (ap (ended 10) e ∙ ended_cut 10 text w);
+  same = ap (told (pos 0)) (checked_all text from left w l e);
+}
 
 module _ (text : List ℕ) (from : ℕ) (s : Standing) (p : ℕ) (line : List ℕ) (left : List (List ℕ)) (w : Walked text from s p (line ∷ left)) where
   pub walk_shape : None ≡ parse_line line → Err (Shape p) ≡ told (pos 0) (check from (cut 10 text))

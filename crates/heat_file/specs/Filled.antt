@@ -6,11 +6,8 @@ use Rattle.balance.specs.declared.refusal.Refusal.TheVariants.{Room}
 use Rattle.balance.specs.Ranges.{only}
 use Rattle.heat_file.specs.declared.line.Entry.{Entry}
 use Rattle.heat_file.specs.declared.line.Entry.TheVariants.{Size, Coefficient, RightSide, Weight}
-use Rattle.heat_file.specs.Lines.{option, parse_line}
 use Rattle.std.specs.List.{AllByRecursion}
-use Rattle.heat_file.specs.Cuts.{cut, closed}
 use Rattle.heat_file.specs.Checks.{size_of, inside}
-use Rattle.heat_file.specs.Files.{read}
 
 -- the cell of row i and column j; column n + 1 is the right side
 abbrev pub index : ℕ → ℕ → ℕ → ℕ
@@ -64,15 +61,12 @@ certificate_after (Ok n) (Ok es) old = certificate n es old
 certificate_after (Ok n) (Err e) old = old
 certificate_after (Err r) a old = old
 
--- the entries that lines write, other lines passed over
-abbrev pub entries : List (List ℕ) → List Entry
-entries [] = []
-entries (l ∷ ls) = option (parse_line l) (entries ls) (λ e. e ∷ entries ls)
-
--- the text is the data lines of an accepted file of size n
-pub record Good (file : List ℕ) (n : ℕ) (text : List ℕ) : Type 0 where
-  pub accepted : read file ≡ Ok (entries (cut 10 text))
-  pub counts : size (entries (cut 10 text)) ≡ n
-  pub whole : closed 10 text ≡ true
+-- what was read is entries of n nodes, and lists hold what they put into those before
+pub record Puts (a : Result (List Entry) Refusal) (n : ℕ) (cs : List Range) (us : List ℤ) (cs' : List Range) (us' : List ℤ) : Type 0 where
+  pub entries : List Entry
+  pub accepted : a ≡ Ok entries
+  pub counts : size entries ≡ n
   pub few : n ≤ 32
-  pub nodes : AllByRecursion (λ e. inside (pos n) e ≡ true) (entries (cut 10 text))
+  pub nodes : AllByRecursion (λ e. inside (pos n) e ≡ true) entries
+  pub puts_cells : cs' ≡ put_cells n entries cs
+  pub puts_weights : us' ≡ put_weights entries us

@@ -1,16 +1,20 @@
 ghost use Rattle.std.specs.Prelude.{◌≡◌, ◌+◌, ◌*◌, ◌<◌, ◌≤◌, true, [], ◌∷◌, length, pos, Err, MatchResult};
-ghost use Rattle.std.specs.List.{AllByRecursion};
 ghost use Rattle.heat_file.specs.Cuts.{cut, closed};
-ghost use Rattle.heat_file.specs.Checks.{inside, told};
+ghost use Rattle.heat_file.specs.Checks.{inside, check, told};
 ghost use Rattle.heat_file.specs.Files.{read};
 ghost use Rattle.heat_file.specs.Laws.{AcceptsFiles, TellsSize, WantsRoom, WantsFrame, RefusesFirstBad, OneReading, CellsHold, WeightsHold, KeepsRest};
-ghost use Rattle.heat_file.specs.Filled.{entries, index, put_cells, put_weights, has_room, answer, cells_after, certificate_after, Good};
+ghost use Rattle.heat_file.specs.Filled.{index, put_cells, put_weights, answer, cells_after, certificate_after, Puts};
 
-use super::check::check_lines;
+use super::check::{Standing, check_lines};
 use super::line::Entry;
 use super::trailer::data_lines;
 use balance::range::Range;
 use balance::refusal::Refusal;
+
+// What a file of 32 nodes gives.
+const NODES: usize = 32;
+
+const CELLS: usize = 1_056;
 
 // Fills cells, row after row with the right side last, and a certificate with what a file says, and answers its size.
 // Absent ranges are [0, 0] and absent numbers 1. Nothing is written unless the whole file is good and there is room.
@@ -31,27 +35,16 @@ pub fn read_file(
     ensures weights_hold_what_the_lines_say { WeightsHold file.now result certificate.new }
     ensures keeps_the_rest { KeepsRest result cells.old cells.new certificate.old certificate.new }
 {
-    let (size, lines) = lines_with_room(file, cells.len(), certificate.len())?;
-    cells[..size * (size + 1)].fill(Range::ZERO);
-    certificate[..size].fill(1);
-    put_lines(lines, size, cells, certificate);
-    Ok(size)
-}
-
-// The size and the data lines of a file, if there is room for so many cells and weights.
-fn lines_with_room(
-    file: &[u8],
-    cell_count: usize,
-    weight_count: usize,
-) -> Result<(usize, &[u8]), Refusal>
-    ensures { MatchResult result (λ x. Good file.now x.0 x.1.now × (has_room x.0 cell_count weight_count ≡ true)) (λ r. answer (read file.now) cell_count weight_count ≡ Err r) }
-{
-    let (size, lines) = good_lines(file)?;
-    if cell_count < size * (size + 1) || weight_count < size {
-        Err(Refusal::Room)
-    } else {
-        Ok((size, lines))
+    let mut read_cells = [Range::ZERO; CELLS];
+    let mut read_weights = [1; NODES];
+    let size = read_entries(file, &mut read_cells, &mut read_weights)?;
+    let cell_count = size * (size + 1);
+    if cells.len() < cell_count || certificate.len() < size {
+        return Err(Refusal::Room);
     }
+    cells[..cell_count].copy_from_slice(&read_cells[..cell_count]);
+    certificate[..size].copy_from_slice(&read_weights[..size]);
+    Ok(size)
 }
 
 // The size of a file.
@@ -61,33 +54,45 @@ pub fn size_of_file(file: &[u8]) -> Result<usize, Refusal>
     ensures wants_a_trailer_that_fits { WantsFrame file.now result }
     ensures refuses_at_the_first_bad_line { RefusesFirstBad file.now result }
 {
-    good_lines(file).map(|(size, _)| size)
+    let (place, lines) = data_lines(file).ok_or(Refusal::File)?;
+    check_lines(lines, place)
 }
 
-// The size of a file and its data lines, if all of them are good.
-fn good_lines(file: &[u8]) -> Result<(usize, &[u8]), Refusal>
-    ensures { MatchResult result (λ x. Good file.now x.0 x.1.now) (λ r. read file.now ≡ Err r) }
+// Puts what a file says into lists with room for any file, and answers its size. Of a refused file they hold what came before the fault.
+fn read_entries(file: &[u8], cells: &mut [Range], certificate: &mut [i64]) -> Result<usize, Refusal>
+    requires has_cells { 1056 ≤ length cells.old }
+    requires has_weights { 32 ≤ length certificate.old }
+    ensures { MatchResult result (λ n. Puts (read file.now) n cells.old certificate.old cells.new certificate.new) (λ r. read file.now ≡ Err r) }
 {
     let (place, lines) = data_lines(file).ok_or(Refusal::File)?;
-    let size = check_lines(lines, place)?;
-    Ok((size, lines))
+    read_lines(lines, place, cells, certificate)
 }
 
-// Puts what each line says into cells and certificate.
-fn put_lines(lines: &[u8], size: usize, cells: &mut [Range], certificate: &mut [i64])
-    requires are_whole { closed 10 lines.now ≡ true }
-    requires has_few_nodes { size ≤ 32 }
-    requires has_its_nodes { AllByRecursion (λ e. inside (pos size) e ≡ true) (entries (cut 10 lines.now)) }
-    requires has_cells { size * (size + 1) ≤ length cells.old }
-    requires has_weights { size ≤ length certificate.old }
-    ensures puts_cells { cells.new ≡ put_cells size (entries (cut 10 lines.now)) cells.old }
-    ensures puts_weights { certificate.new ≡ put_weights (entries (cut 10 lines.now)) certificate.old }
+// The same of whole data lines. They begin at a byte place of the file.
+fn read_lines(
+    text: &[u8],
+    from: usize,
+    cells: &mut [Range],
+    certificate: &mut [i64],
+) -> Result<usize, Refusal>
+    requires are_whole_lines { closed 10 text.now ≡ true }
+    requires are_in_a_file { from + length text.now ≤ 65535 }
+    requires has_cells { 1056 ≤ length cells.old }
+    requires has_weights { 32 ≤ length certificate.old }
+    ensures { MatchResult result (λ n. Puts (check from (cut 10 text.now)) n cells.old certificate.old cells.new certificate.new) (λ r. check from (cut 10 text.now) ≡ Err r) }
 {
+    let [lines @ .., b'\n'] = text else {
+        return Err(Refusal::Shape { place: from });
+    };
+    let mut standing = Standing::START;
+    let mut place = from;
     for line in lines.split(|byte| *byte == b'\n') {
-        if let Some(entry) = Entry::parse(line) {
-            entry.put(size, cells, certificate);
-        }
+        let entry = Entry::parse(line).ok_or(Refusal::Shape { place })?;
+        standing = standing.check(entry, place)?;
+        entry.put(standing.size as usize, cells, certificate);
+        place += line.len() + 1;
     }
+    Ok(standing.size as usize)
 }
 
 impl Entry {
