@@ -1,6 +1,8 @@
-// Every limit and every refusal of networks and layers, at and just beyond its edge. There are tests here, and what they need.
+// Every limit and every refusal of networks, layers and chains, at and just beyond its edge. There are tests here, and what they need.
 #![tactic(auto)]
 
+#[cfg(test)]
+mod chains;
 #[cfg(test)]
 mod layers;
 mod made;
