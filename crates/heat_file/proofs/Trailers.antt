@@ -1,17 +1,17 @@
 -- How the data lines of a file are found by its trailer.
-use Rattle.std.proofs.Common.{◌≡◌, ℕ, zero, suc, ◌+◌, ◌-◌, ◌^◌, ◌<◌, ◌≤◌, Bool, true, false, cond, eqb, leb, List, [], ◌∷◌, ◌++◌, length, get_or, take, drop, ℤ, pos, negsuc, Some, None, codes, Option, sym, refl, ap, ◌∙◌, subst, append_assoc, arith}
-use Rattle.std.specs.List.{AllByRecursion, IsAfterLastMatch, count_by}
+use Rattle.std.proofs.Common.{◌≡◌, ℕ, zero, suc, ◌+◌, ◌-◌, ◌^◌, ◌<◌, ◌≤◌, Bool, true, false, cond, eqb, leb, List, [], ◌∷◌, ◌++◌, length, get_or, take, drop, ℤ, pos, negsuc, Some, None, codes, Option, sym, refl, ap, ◌∙◌, subst, append_assoc, add-one, arith}
+use Rattle.std.specs.List.{AllByRecursion, IsAfterLastMatch}
 use Rattle.std.specs.Str.{bytes_eq}
 use Rattle.std.proofs.lemmas.Bool.{ne_eqb, le-leb, and_right}
-use Rattle.std.proofs.lemmas.List.{take-append-drop, length-take-le, length-append, length_push, take_at, drop_at, get_or-drop, get_or-take}
+use Rattle.std.proofs.lemmas.List.{take-append-drop, length-take-le, length-append, length_push, take_at, drop_at, drop_all, get_or-drop, get_or-take}
 use Rattle.std.specs.Bool.{MatchBool}
-use Rattle.std.proofs.lemmas.List.Splits.{length-slice_split}
+use Rattle.std.proofs.Math.Seq.{drop-cons}
+use mir.Val.{bool_byte}
 use Rattle.std.proofs.lemmas.Slice.Eq.{bytes_eq-Decides}
 use Rattle.heat_file.specs.Cuts.{cut, onto, ended, closed, Free}
 use Rattle.heat_file.specs.Lines.{spaced, option}
 use Rattle.heat_file.specs.Files.{trailer, last, two, ending, front, data_from, located, Parts}
-use Rattle.heat_file.proofs.Cutting.{cut_all, cut_free, cut_append, ended_cut, closed_ended, closed_append, free_append, eqb_same}
-use Rattle.heat_file.proofs.Pieces.{split_is_cut}
+use Rattle.heat_file.proofs.Cutting.{cut_all, cut_free, cut_append, ended_cut, closed_ended, closed_append, free_append}
 use Rattle.heat_file.proofs.Lines.{tagged_spaced, tagged_gives, spaced_free}
 
 abbrev closing : List ℕ → List ℤ → Option (ℕ × ℕ)
@@ -135,17 +135,24 @@ onto_long : (c : ℕ) (ps : List (List ℕ)) → length (onto c ps) ≡ length p
 onto_long c [] = refl
 onto_long c (p ∷ ps) = refl
 
-cut_push : (s : ℕ) (bs : List ℕ) → length (cut s (bs ++ (s ∷ []))) ≡ length (cut s bs) + 1
-cut_push s [] = rw (eqb_same s) refl
-cut_push s (c ∷ cs) = by (eqb c s) (cut_push s cs)
-  where
-    by : (b : Bool) → length (cut s (cs ++ (s ∷ []))) ≡ length (cut s cs) + 1 → length (cond b ([] ∷ cut s (cs ++ (s ∷ []))) (onto c (cut s (cs ++ (s ∷ []))))) ≡ length (cond b ([] ∷ cut s cs) (onto c (cut s cs))) + 1
-    by true e = omega (arith, e)
-    by false e = omega (arith, e, onto_long c (cut s cs), onto_long c (cut s (cs ++ (s ∷ []))))
+-- of a text, so many lines end before byte k
+abbrev pub Counted : List ℕ → ℕ → ℕ → Type 0
+Counted bs k count = (count ≤ k) × (count + length (cut 10 (drop k bs)) ≡ length (cut 10 bs))
 
--- a text has as many ended lines as line feeds
-pub count_cut : (bs : List ℕ) → count_by (λ c. eqb c 10) bs ≡ length (cut 10 bs)
-count_cut bs = omega (arith, length-slice_split (λ c. eqb c 10) bs, ap length (split_is_cut 10 bs), cut_push 10 bs)
+pub counted_on : (bs : List ℕ) (k count more : ℕ) → k < length bs → more ≡ bool_byte (eqb (get_or bs k 0) 10) → Counted bs k count → Counted bs (k + 1) (count + more)
+counted_on bs k count more l q h =
+    let d : drop k bs ≡ get_or bs k 0 ∷ drop (k + 1) bs = rw add-one (drop-cons bs k 0 l) in
+    by (eqb (get_or bs k 0) 10) q (sym h.1 ∙ ap (λ cs. count + length (cut 10 cs)) d)
+  where
+    rest : List (List ℕ)
+    rest = cut 10 (drop (k + 1) bs)
+
+    by : (b : Bool) → more ≡ bool_byte b → length (cut 10 bs) ≡ count + length (cond b ([] ∷ rest) (onto (get_or bs k 0) rest)) → Counted bs (k + 1) (count + more)
+    by true q e = (omega (arith, q, h.0), omega (arith, q, e))
+    by false q e = (omega (arith, q, h.0), omega (arith, q, e, onto_long (get_or bs k 0) rest))
+
+pub counted_all : (bs : List ℕ) (k count : ℕ) → length bs ≤ k → Counted bs k count → count ≡ length (cut 10 bs)
+counted_all bs k count l h = omega (arith, h.1, ap (λ cs. length (cut 10 cs)) (drop_all k bs l))
 
 all_free : (text : List ℕ) → ((k : ℕ) (d : ℕ) → 0 ≤ k → k < length text → eqb (get_or text k d) 10 ≡ false) → Free 10 text
 all_free [] h = tt

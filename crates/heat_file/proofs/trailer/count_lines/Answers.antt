@@ -1,11 +1,9 @@
-use Rattle.std.proofs.Common.{eqb, ◌∙◌, rules, tests}
-use Rattle.std.proofs.lemmas.Iterator.{YieldsList-from_slice}
-use Rattle.std.proofs.lemmas.Iterator.Consumers.{YieldsList-from_filter, YieldsList-at, count_from_yields_List}
-use Rattle.std.proofs.lemmas.List.Sums.{length-filter}
-use Rattle.heat_file.proofs.Trailers.{count_cut}
+use Rattle.std.proofs.Common.{arith}
+use Rattle.heat_file.proofs.Trailers.{counted_on, counted_all}
 use Rattle.heat_file.proofs.trailer.count_lines.Goals as goal
 
+pub loop-byte-preserved : goal.loop-byte-preserved
+loop-byte-preserved c = counted_on c.args.text.now c.loop-byte.byte-index c.loop-byte.count c.from-count.result (omega arith) c.from-count.ensures c.loop-byte.invariant
+
 pub returns : goal.returns
-returns c =
-    count_from_yields_List c.filter.result _ c.count.ensures.ran (YieldsList-from_filter _ (λ b. eqb b 10) (YieldsList-at c.filter.ensures.source (YieldsList-from_slice c.args.text.now (cc))) c.filter.ensures.closure (λ x r q k. search (rules, tests)))
-    ∙ length-filter (λ b. eqb b 10) c.args.text.now ∙ count_cut c.args.text.now
+returns c = counted_all c.args.text.now c.loop-byte.byte-index c.loop-byte.count (omega arith) c.loop-byte.invariant
