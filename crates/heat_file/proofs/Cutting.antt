@@ -4,7 +4,7 @@ use Rattle.std.specs.List.{AllByRecursion}
 use Rattle.std.proofs.lemmas.Bool.{eq-eqb, eqb-true}
 use Rattle.heat_file.specs.Cuts.{cut, onto, ended, closed, Free}
 
-pub eqb_same : (s : ℕ) → eqb s s ≡ true
+eqb_same : (s : ℕ) → eqb s s ≡ true
 eqb_same s = eq-eqb s s refl
 
 pub cut_first : (s : ℕ) (p t : List ℕ) → Free s p → cut s (p ++ (s ∷ t)) ≡ p ∷ cut s t

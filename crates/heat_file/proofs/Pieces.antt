@@ -41,7 +41,7 @@ module _ {F : Type 0} (g : Mut F (Bor ℕ × Unit {0}) Bool) (b : ℕ) (s t : Sp
       first_part (λ c. eqb c b) (split_rest s) x.now (split_rest t) (split_done t) k.1 (k.2 (λ c. eqb c b) (computes g b (split_callee s) tests)).1
 
 -- the pieces of a text between bytes are those that the bytes and one more end
-pub split_is_cut : (b : ℕ) (bs : List ℕ) → slice_split (λ c. eqb c b) bs ≡ cut b (bs ++ (b ∷ []))
+split_is_cut : (b : ℕ) (bs : List ℕ) → slice_split (λ c. eqb c b) bs ≡ cut b (bs ++ (b ∷ []))
 split_is_cut b [] = rw (eq-eqb b b refl)
 split_is_cut b (c ∷ cs) = by (eqb c b) (cut b (cs ++ (b ∷ []))) (split_is_cut b cs)
   where

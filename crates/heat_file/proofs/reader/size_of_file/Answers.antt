@@ -1,11 +1,9 @@
-use Rattle.std.proofs.Common.{◌≡◌, ℕ, List, pos, Some, sym, ap, ◌∙◌, arith}
-use Rattle.std.specs.Option.{option_map}
+use Rattle.std.proofs.Common.{◌≡◌, pos, sym, ap, ◌∙◌, arith}
 use Rattle.std.proofs.lemmas.Grind.{common_steps}
-use denote.Ref.{Bor}
 use Rattle.heat_file.specs.Checks.{told}
-use Rattle.heat_file.specs.Files.{located, read}
+use Rattle.heat_file.specs.Files.{read}
 use Rattle.heat_file.proofs.Frames.{located_gives}
-use Rattle.heat_file.proofs.GoodFiles.{ok_or_some, read_some}
+use Rattle.heat_file.proofs.GoodFiles.{located_some, read_some}
 use Rattle.heat_file.proofs.FileLaws.{told_is_answer, tells_size, wants_frame, refuses_first_bad}
 use Rattle.heat_file.proofs.reader.size_of_file.Goals as goal
 
@@ -24,7 +22,7 @@ returns-in_err-place c =
 
 pub check_lines-requires : goal.check_lines-requires
 check_lines-requires c =
-    let d : Some (c.in_ok-place.place, c.in_ok-place.lines.now) ≡ located c.args.file.now = ap (option_map (λ (d : ℕ × Bor (List ℕ)). (d.0, d.1.now))) (sym (ok_or_some _ _ _ c.in_ok-place.ensures.value)) ∙ c.data_lines.ensures in
+    let d = located_some _ _ (c.in_ok-place.place, c.in_ok-place.lines) c.args.file.now c.in_ok-place.ensures.value c.data_lines.ensures in
     let f = located_gives c.args.file.now c.in_ok-place.place c.in_ok-place.lines.now (sym d) in
     record { are_whole_lines = f.whole; are_in_a_file = f.inner }
 
@@ -32,7 +30,7 @@ pub returns : goal.returns
 returns c =
     let f = c.args.file.now in
     let r = c.check_lines.result in
-    let d : Some (c.in_ok-place.place, c.in_ok-place.lines.now) ≡ located f = ap (option_map (λ (d : ℕ × Bor (List ℕ)). (d.0, d.1.now))) (sym (ok_or_some _ _ _ c.in_ok-place.ensures.value)) ∙ c.data_lines.ensures in
+    let d = located_some _ _ (c.in_ok-place.place, c.in_ok-place.lines) f c.in_ok-place.ensures.value c.data_lines.ensures in
     let a : r ≡ told (pos 0) (read f) = c.check_lines.ensures ∙ ap (told (pos 0)) (sym (read_some f c.in_ok-place.place c.in_ok-place.lines.now d)) in
     let q = a ∙ told_is_answer f in
     record {
