@@ -1,119 +1,17 @@
-// Drums as this program counts them itself: what each place tells, and what layers make of it.
+// A drum as this program counts it itself: what each place tells, and what layers make of it.
 use super::span::Span;
 use balance::range::Range;
 use balance::refusal::Refusal;
-use std::alloc::{AllocError, Global};
 
-// The coefficients of a row and its right side.
-#[derive(Drop)]
-pub(crate) struct Row<T> {
-    pub coefficients: Vec<T>,
-    pub side: T,
-}
+const LARGEST_COEFFICIENT: i128 = 1_048_576;
 
-// The two ends at a place, or the refusal of the place.
-pub(crate) type Place = Result<Range, Refusal>;
-
-const COEFFICIENTS: Range = Range {
-    lower: -1_048_576,
-    upper: 1_048_576,
-};
-
-const SIDES: Range = Range {
-    lower: -4_398_046_511_104,
-    upper: 4_398_046_511_104,
-};
-
-// Where a range stands.
+// Ranges row after row, the right side last in each; a certificate, and a whole point that solves some member.
 #[derive(Clone, Copy)]
-struct Spot {
-    part: usize,
-    row: usize,
-    column: usize,
-}
-
-impl Spot {
-    fn limited(self, range: Range, limits: Range) -> Place {
-        if range.lower < limits.lower || limits.upper < range.upper {
-            Err(Refusal::Limit {
-                part: self.part,
-                row: self.row,
-                column: self.column,
-            })
-        } else {
-            Ok(range)
-        }
-    }
-}
-
-// A place's ends as a span; nothing is asked of a drum with a refused place.
-pub(crate) fn span(place: &Place) -> Span {
-    match place {
-        Ok(range) => Span::new(*range),
-        Err(_) => Span::ZERO,
-    }
-}
-
-// The first refused place, row by row, the columns before the right side.
-pub(crate) fn first_refused(drum: &[Row<Place>]) -> Result<(), Refusal> {
-    for row in drum {
-        for place in &row.coefficients {
-            (*place)?;
-        }
-        row.side?;
-    }
-    Ok(())
-}
-
-// All ranges in one list, row after row, the right side last.
-pub(crate) fn cells(heap: Global, rows: &[Row<Range>]) -> Result<Vec<Range>, AllocError> {
-    let mut cells = Vec::new(heap);
-    for row in rows {
-        for range in &row.coefficients {
-            cells.push(*range)?;
-        }
-        cells.push(row.side)?;
-    }
-    Ok(cells)
-}
-
-fn told_row(
-    heap: Global,
-    row: &Row<Range>,
-    part: usize,
-    number: usize,
-) -> Result<Row<Place>, AllocError> {
-    let mut coefficients = Vec::new(heap);
-    for (j, range) in row.coefficients.iter().enumerate() {
-        let spot = Spot {
-            part,
-            row: number,
-            column: j + 1,
-        };
-        coefficients.push(spot.limited(*range, COEFFICIENTS))?;
-    }
-    let spot = Spot {
-        part,
-        row: number,
-        column: row.coefficients.len().wrapping_add(1),
-    };
-    Ok(Row {
-        coefficients,
-        side: spot.limited(row.side, SIDES),
-    })
-}
-
-// What a part tells that has these ranges: those beyond the limits are refused.
-pub(crate) fn told(
-    heap: Global,
-    rows: &[Row<Range>],
-    part: usize,
-) -> Result<Vec<Row<Place>>, AllocError> {
-    let mut drum = Vec::new(heap);
-    for (i, row) in rows.iter().enumerate() {
-        drum.push(told_row(heap, row, part, i + 1)?)?;
-    }
-    Ok(drum)
+pub(crate) struct Drum {
+    pub size: usize,
+    pub ranges: [Range; 1056],
+    pub numbers: [i64; 32],
+    pub point: [i128; 32],
 }
 
 // A range times a factor, from the smaller to the larger of the two products.
@@ -126,78 +24,82 @@ pub(crate) fn multiplied(range: Range, factor: i64) -> Range {
     }
 }
 
-fn scaled_place(place: &Place, factor: i64, spot: Spot, limits: Range) -> Place {
-    spot.limited(multiplied((*place)?, factor), limits)
-}
-
-fn scaled_row(
-    heap: Global,
-    row: &Row<Place>,
-    factor: i64,
-    number: usize,
-) -> Result<Row<Place>, AllocError> {
-    let mut coefficients = Vec::new(heap);
-    for (j, place) in row.coefficients.iter().enumerate() {
-        let spot = Spot {
-            part: 3,
-            row: number,
-            column: j + 1,
-        };
-        coefficients.push(scaled_place(place, factor, spot, COEFFICIENTS))?;
+impl Drum {
+    // Where a row keeps a column, both counted from 0; column `size` is the right side.
+    pub(crate) fn place(&self, row: usize, column: usize) -> usize {
+        row.wrapping_mul(self.size.wrapping_add(1))
+            .wrapping_add(column)
     }
-    let spot = Spot {
-        part: 3,
-        row: number,
-        column: row.coefficients.len().wrapping_add(1),
-    };
-    Ok(Row {
-        coefficients,
-        side: scaled_place(&row.side, factor, spot, SIDES),
-    })
-}
 
-// What a row scaler tells over a drum.
-pub(crate) fn scaled(
-    heap: Global,
-    drum: &[Row<Place>],
-    factors: &[i64],
-) -> Result<Vec<Row<Place>>, AllocError> {
-    let mut rows = Vec::new(heap);
-    for (i, (row, factor)) in drum.iter().zip(factors.iter()).enumerate() {
-        rows.push(scaled_row(heap, row, *factor, i + 1)?)?;
-    }
-    Ok(rows)
-}
-
-// The items of a list in another order; nodes are counted from 1.
-pub(crate) fn reordered<T: Copy + Drop>(
-    heap: Global,
-    items: &[T],
-    order: &[usize],
-) -> Result<Vec<T>, AllocError> {
-    let mut list = Vec::new(heap);
-    for node in order {
-        if let Some(item) = items.get(node.wrapping_sub(1)) {
-            list.push(*item)?;
+    pub(crate) fn range(&self, row: usize, column: usize) -> Range {
+        let place = self.place(row, column);
+        if place < 1056 {
+            self.ranges[place]
+        } else {
+            Range::ZERO
         }
     }
-    Ok(list)
-}
 
-// What a renumbering tells over a drum.
-pub(crate) fn renumbered(
-    heap: Global,
-    drum: &[Row<Place>],
-    order: &[usize],
-) -> Result<Vec<Row<Place>>, AllocError> {
-    let mut rows = Vec::new(heap);
-    for node in order {
-        if let Some(row) = drum.get(node.wrapping_sub(1)) {
-            rows.push(Row {
-                coefficients: reordered(heap, &row.coefficients, order)?,
-                side: row.side,
-            })?;
+    pub(crate) fn span(&self, row: usize, column: usize) -> Span {
+        let range = self.range(row, column);
+        Span::new(range.lower, range.upper)
+    }
+
+    pub(crate) fn put(&mut self, row: usize, column: usize, range: Range) {
+        let place = self.place(row, column);
+        if place < 1056 {
+            self.ranges[place] = range;
         }
     }
-    Ok(rows)
+
+    pub(crate) fn certificate(&self) -> &[i64] {
+        &self.numbers[..self.size.min(32)]
+    }
+
+    // The first place beyond the limits, row by row. Only a table has such a place.
+    pub(crate) fn first_refused(&self) -> Result<(), Refusal> {
+        for row in 0..self.size {
+            for column in 0..self.size {
+                if self.span(row, column).magnitude() > LARGEST_COEFFICIENT {
+                    return Err(Refusal::Limit {
+                        part: 1,
+                        row: row.wrapping_add(1),
+                        column: column.wrapping_add(1),
+                    });
+                }
+            }
+        }
+        Ok(())
+    }
+
+    // Takes a row over from the drum below, its columns in another order, and each range times a factor.
+    fn take_row(
+        &mut self,
+        row: usize,
+        below: &Drum,
+        below_row: usize,
+        order: &[usize],
+        factor: i64,
+    ) {
+        for (column, below_column) in order.iter().enumerate() {
+            let range = below.range(below_row, below_column.wrapping_sub(1));
+            self.put(row, column, multiplied(range, factor));
+        }
+        let side = below.range(below_row, self.size);
+        self.put(row, self.size, multiplied(side, factor));
+    }
+
+    // As a renumbering and then a row scaler tell it.
+    pub(crate) fn layered(&self, order: &[usize], factors: &[i64]) -> Drum {
+        let mut layered = *self;
+        for (row, (node, factor)) in order.iter().zip(factors.iter()).enumerate() {
+            let below = node.wrapping_sub(1);
+            layered.take_row(row, self, below, order, *factor);
+            if row < 32 && below < 32 {
+                layered.numbers[row] = self.numbers[below];
+                layered.point[row] = self.point[below];
+            }
+        }
+        layered
+    }
 }

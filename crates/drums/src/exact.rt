@@ -1,166 +1,81 @@
-// Members with an end of each range, of drums of 1 to 3 nodes, solved by Cramer's rule. A smaller drum gets rows x = 0 to have three.
-use super::drum::{Place, Row, span};
+// Members with an end of each range, of drums of 1 to 3 nodes, solved by Cramer's rule.
+use super::drum::Drum;
 use super::span::Span;
 use roast::call::Reading;
-use std::alloc::{AllocError, Global};
 
-// Numerators over one denominator above 0.
-#[derive(Drop)]
-pub(crate) struct Solution {
-    pub numerators: Vec<i128>,
+// Numerators over one denominator above 0, a numerator for each node.
+#[derive(Clone, Copy)]
+pub(crate) struct Point {
+    pub numerators: [i128; 32],
     pub denominator: i128,
 }
 
-impl Solution {
-    fn component_is_within(&self, numerator: i128, span: Span) -> bool {
-        span.times(self.denominator).holds(numerator)
+impl Point {
+    // Whether a component is within a span.
+    fn lies(&self, node: usize, span: Span) -> bool {
+        node < 32 && span.times(self.denominator).holds(self.numerators[node])
     }
 
     pub(crate) fn is_in(&self, spans: &[Span]) -> bool {
-        self.numerators.iter().zip(spans.iter()).all(|(numerator, span)| self.component_is_within(
-            *numerator, *span,
-        ))
-    }
-
-    fn agrees(&self, reading: &Reading) -> bool {
-        let span = Span::new((*reading).into());
-        match self.numerators.get(reading.node.wrapping_sub(1)) {
-            Some(numerator) => self.component_is_within(*numerator, span),
-            None => false,
+        let mut inside = true;
+        for (node, span) in spans.iter().enumerate() {
+            inside &= self.lies(node, *span);
         }
+        inside
     }
 
     pub(crate) fn agrees_with(&self, readings: &[Reading]) -> bool {
-        readings.iter().all(|reading| self.agrees(reading))
-    }
-}
-
-// The ends that are picked, one bit for each range.
-#[derive(Drop)]
-struct Picks {
-    bits: u32,
-}
-
-impl Picks {
-    fn pick(&mut self, place: &Place) -> i128 {
-        let span = span(place);
-        let upper = self.bits % 2 == 1;
-        self.bits /= 2;
-        if upper { span.high } else { span.low }
-    }
-}
-
-// Three coefficients and a right side.
-type Equation = [i128; 4];
-
-fn picked(row: &Row<Place>, picks: &mut Picks) -> Equation {
-    let mut equation = [0; 4];
-    for (j, place) in row.coefficients.iter().enumerate() {
-        if j < 3 {
-            equation[j] = picks.pick(place);
+        let mut agrees = true;
+        for reading in readings {
+            let span = Span::new(reading.lower, reading.upper);
+            agrees &= self.lies(reading.node.wrapping_sub(1), span);
         }
+        agrees
     }
-    equation[3] = picks.pick(&row.side);
-    equation
 }
 
-fn member(drum: &[Row<Place>], bits: u32) -> [Equation; 3] {
-    let mut picks = Picks { bits };
-    let mut equations = [[1, 0, 0, 0], [0, 1, 0, 0], [0, 0, 1, 0]];
-    for (i, row) in drum.iter().enumerate() {
-        if i < 3 {
-            equations[i] = picked(row, &mut picks);
-        }
-    }
-    equations
-}
+// The coefficients of a column in three rows, or three right sides.
+type Column = [i128; 3];
 
 fn minor(p: i128, q: i128, s: i128, t: i128) -> i128 {
     p.wrapping_mul(t).wrapping_sub(q.wrapping_mul(s))
 }
 
-// The determinant of three columns.
-fn determinant(u: [i128; 3], v: [i128; 3], w: [i128; 3]) -> i128 {
-    let [u1, u2, u3] = u;
-    let [v1, v2, v3] = v;
-    let [w1, w2, w3] = w;
-    let first = u1.wrapping_mul(minor(v2, v3, w2, w3));
-    let second = u2.wrapping_mul(minor(v3, v1, w3, w1));
-    let third = u3.wrapping_mul(minor(v1, v2, w1, w2));
+fn determinant(u: Column, v: Column, w: Column) -> i128 {
+    let first = u[0].wrapping_mul(minor(v[1], v[2], w[1], w[2]));
+    let second = u[1].wrapping_mul(minor(v[2], v[0], w[2], w[0]));
+    let third = u[2].wrapping_mul(minor(v[0], v[1], w[0], w[1]));
     first.wrapping_add(second).wrapping_add(third)
 }
 
-// The greatest common divisor of two numbers; 128-bit numbers need fewer than 200 steps.
-fn common_divisor(a: i128, b: i128) -> i128 {
-    let mut pair = (a, b);
-    for _ in 0..200 {
-        let Some(rest) = pair.0.checked_rem(pair.1) else {
-            break;
-        };
-        pair = (pair.1, rest);
-    }
-    pair.0
-}
-
-// What numerators and a denominator other than 0 have in common, with the sign of the denominator.
-fn common(numerators: [i128; 3], denominator: i128) -> i128 {
-    let [x, y, z] = numerators;
-    let shared = common_divisor(common_divisor(common_divisor(denominator, x), y), z);
-    if (shared < 0) == (denominator < 0) {
-        shared
+// An end of the range at a place, by one bit of the member's number.
+fn picked(drum: &Drum, member: usize, row: usize, column: usize) -> i128 {
+    let span = drum.span(row, column);
+    let bit = 1usize.checked_shl(u32::try_from(drum.place(row, column)).unwrap_or(0));
+    if member & bit.unwrap_or(0) == 0 {
+        span.low
     } else {
-        shared.wrapping_neg()
+        span.high
     }
 }
 
-// The first numerators over a denominator other than 0, in lowest terms and over a number above 0.
-fn reduced(
-    heap: Global,
-    numerators: [i128; 3],
-    denominator: i128,
-    count: usize,
-) -> Result<Solution, AllocError> {
-    let shared = common(numerators, denominator);
-    let mut list = Vec::new(heap);
-    for numerator in numerators.iter().take(count) {
-        list.push(numerator.checked_div(shared).unwrap_or(0))?;
+// A column of a member, the right sides being column 3. Nodes that a drum has not got hold x = 0.
+fn column(drum: &Drum, member: usize, number: usize) -> Column {
+    let mut column = [0; 3];
+    if number < 3 {
+        column[number] = 1;
     }
-    Ok(Solution {
-        numerators: list,
-        denominator: denominator.checked_div(shared).unwrap_or(1),
-    })
-}
-
-// The only solution of three equations for the first unknowns, if they have just one.
-fn solve(
-    heap: Global,
-    equations: [Equation; 3],
-    count: usize,
-) -> Result<Option<Solution>, AllocError> {
-    let [[a, b, c, p], [d, e, f, q], [g, h, i, r]] = equations;
-    let (u, v, w, side) = ([a, d, g], [b, e, h], [c, f, i], [p, q, r]);
-    let whole = determinant(u, v, w);
-    if whole == 0 {
-        return Ok(None);
+    if number < drum.size || number == 3 {
+        for row in 0..drum.size.min(3) {
+            column[row] = picked(drum, member, row, number.min(drum.size));
+        }
     }
-    let numerators = [
-        determinant(side, v, w),
-        determinant(u, side, w),
-        determinant(u, v, side),
-    ];
-    Ok(Some(reduced(heap, numerators, whole, count)?))
-}
-
-// The solutions of all members that have just one, and how many have not.
-#[derive(Drop)]
-pub(crate) struct Members {
-    pub solutions: Vec<Solution>,
-    pub singular: u64,
+    column
 }
 
 // 2^(n (n + 1)) members of a drum of n nodes, n from 1 to 3; none of a larger one.
-fn member_count(nodes: usize) -> u32 {
-    match nodes {
+pub(crate) fn member_count(size: usize) -> usize {
+    match size {
         1 => 4,
         2 => 64,
         3 => 4096,
@@ -168,17 +83,27 @@ fn member_count(nodes: usize) -> u32 {
     }
 }
 
-pub(crate) fn all_members(heap: Global, drum: &[Row<Place>]) -> Result<Members, AllocError> {
-    let mut solutions = Vec::new(heap);
-    let mut singular = 0u64;
-    for bits in 0..member_count(drum.len()) {
-        match solve(heap, member(drum, bits), drum.len())? {
-            Some(solution) => solutions.push(solution)?,
-            None => singular = singular.wrapping_add(1),
-        }
+// The only solution of a member, if it has just one. The member beyond the last is the one that the planted point solves.
+pub(crate) fn solution(drum: &Drum, member: usize) -> Option<Point> {
+    if member == member_count(drum.size) {
+        return Some(Point {
+            numerators: drum.point,
+            denominator: 1,
+        });
     }
-    Ok(Members {
-        solutions,
-        singular,
+    let u = column(drum, member, 0);
+    let v = column(drum, member, 1);
+    let w = column(drum, member, 2);
+    let side = column(drum, member, 3);
+    let whole = determinant(u, v, w);
+    let sign = whole.signum();
+    let mut numerators = [0; 32];
+    numerators[0] = determinant(side, v, w).wrapping_mul(sign);
+    numerators[1] = determinant(u, side, w).wrapping_mul(sign);
+    numerators[2] = determinant(u, v, side).wrapping_mul(sign);
+    let denominator = whole.wrapping_mul(sign);
+    (denominator != 0).then_some(Point {
+        numerators,
+        denominator,
     })
 }

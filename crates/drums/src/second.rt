@@ -1,48 +1,16 @@
-// The certificate, the first box and the calls once more, in another style: wide numbers, one fraction for the first box, the other columns
-// taken from the right side one by one, passes from the last row to the first.
-use super::drum::{Place, Row, first_refused, span};
+// The certificate, the first box and the calls once more, in another style: wide numbers, the other columns taken from the right side one by one,
+// passes from the last row to the first.
+use super::drum::Drum;
 use super::span::{Span, ceiling};
 use balance::refusal::Refusal;
-use roast::call::{Answer, Call, Reading};
-
-// Passes and rounds that a box is given to come to rest.
-pub(crate) const PASSES: usize = 120;
+use roast::call::Reading;
 
 const LARGEST_NUMBER: i64 = 1_048_576;
 
 const LARGEST_END: i128 = 1_073_741_824;
 
-// A box: the spans of the nodes that are there, and beyond them [0, 0].
-#[derive(Clone, Copy, PartialEq, Eq)]
-pub(crate) struct Second {
-    count: usize,
-    spans: [Span; 32],
-}
-
-// A fraction of numbers from 0 and from 1 up.
-#[derive(Clone, Copy)]
-struct Fraction {
-    side: i128,
-    margin: i128,
-}
-
-impl Fraction {
-    fn larger(self, other: Fraction) -> Fraction {
-        if self.side.wrapping_mul(other.margin) < other.side.wrapping_mul(self.margin) {
-            other
-        } else {
-            self
-        }
-    }
-
-    // A number of the certificate times the fraction, rounded up.
-    fn end(self, number: i64) -> Option<i128> {
-        ceiling(i128::from(number).wrapping_mul(self.side), self.margin)
-    }
-}
-
-fn check_certificate(count: usize, certificate: &[i64]) -> Result<(), Refusal> {
-    if certificate.len() != count {
+fn check_certificate(size: usize, certificate: &[i64]) -> Result<(), Refusal> {
+    if certificate.len() != size {
         return Err(Refusal::Certificate { place: 0 });
     }
     for (i, number) in certificate.iter().enumerate() {
@@ -54,72 +22,68 @@ fn check_certificate(count: usize, certificate: &[i64]) -> Result<(), Refusal> {
 }
 
 // What the diagonal of a row has over the rest of it.
-fn margin(row: &Row<Place>, certificate: &[i64], own: usize) -> i128 {
+pub(crate) fn margin(drum: &Drum, certificate: &[i64], row: usize) -> i128 {
     let mut margin = 0i128;
-    for (j, (place, number)) in row.coefficients.iter().zip(certificate.iter()).enumerate() {
-        let size = if j == own {
-            span(place).mignitude()
+    for (column, number) in certificate.iter().enumerate() {
+        let span = drum.span(row, column);
+        let size = if column == row {
+            span.mignitude()
         } else {
-            span(place).magnitude().wrapping_neg()
+            span.magnitude().wrapping_neg()
         };
         margin = margin.wrapping_add(size.wrapping_mul(i128::from(*number)));
     }
     margin
 }
 
-// The largest right side over its margin, or the first row that is not dominated.
-fn largest_fraction(drum: &[Row<Place>], certificate: &[i64]) -> Result<Fraction, Refusal> {
-    let mut largest = Fraction { side: 0, margin: 1 };
-    for (i, row) in drum.iter().enumerate() {
-        let margin = margin(row, certificate, i);
-        if margin < 1 {
-            return Err(Refusal::Dominance { place: i + 1 });
+fn check_margins(drum: &Drum, certificate: &[i64]) -> Result<(), Refusal> {
+    for row in 0..drum.size {
+        if margin(drum, certificate, row) < 1 {
+            let place = row.wrapping_add(1);
+            return Err(Refusal::Dominance { place });
         }
-        let side = span(&row.side).magnitude();
-        largest = largest.larger(Fraction { side, margin });
     }
-    Ok(largest)
+    Ok(())
 }
 
-fn first_span(fraction: Fraction, number: i64, node: usize) -> Result<Span, Refusal> {
-    match fraction.end(number) {
-        Some(end) if end <= LARGEST_END => Ok(Span {
-            low: end.wrapping_neg(),
-            high: end,
-        }),
-        _ => Err(Refusal::Wide { place: node }),
+// The end of the first box for a node with this number: the largest of the rows' bounds, each rounded up.
+fn first_end(drum: &Drum, certificate: &[i64], number: i64) -> i128 {
+    let mut end = 0i128;
+    for row in 0..drum.size {
+        let side = drum.span(row, drum.size).magnitude();
+        let margin = margin(drum, certificate, row);
+        end = end.max(ceiling(i128::from(number).wrapping_mul(side), margin));
     }
+    end
+}
+
+// A box: the spans of a drum's nodes, and beyond them [0, 0]. Nodes are counted from 1 by calls and refusals, and from 0 in between.
+#[derive(Clone, Copy)]
+pub(crate) struct Second {
+    pub spans: [Span; 32],
 }
 
 impl Second {
-    // A box of no nodes.
-    pub(crate) fn new() -> Second {
-        Second {
-            count: 0,
-            spans: [Span::ZERO; 32],
-        }
-    }
-
     // The first box, or the refusal of the opening.
-    pub(crate) fn opened(drum: &[Row<Place>], certificate: &[i64]) -> Result<Second, Refusal> {
-        first_refused(drum)?;
-        check_certificate(drum.len(), certificate)?;
-        let fraction = largest_fraction(drum, certificate)?;
+    pub(crate) fn opened(drum: &Drum, certificate: &[i64]) -> Result<Second, Refusal> {
+        drum.first_refused()?;
+        check_certificate(drum.size, certificate)?;
+        check_margins(drum, certificate)?;
         let mut second = Second {
-            count: drum.len(),
             spans: [Span::ZERO; 32],
         };
         for (i, number) in certificate.iter().enumerate() {
-            second.put(i, first_span(fraction, *number, i + 1)?);
+            let high = first_end(drum, certificate, *number);
+            if LARGEST_END < high {
+                return Err(Refusal::Wide { place: i + 1 });
+            }
+            let low = high.wrapping_neg();
+            second.put(i, Span { low, high });
         }
         Ok(second)
     }
 
-    pub(crate) fn spans(&self) -> &[Span] {
-        &self.spans
-    }
-
-    fn at(&self, i: usize) -> Span {
+    pub(crate) fn at(&self, i: usize) -> Span {
         if i < 32 { self.spans[i] } else { Span::ZERO }
     }
 
@@ -129,120 +93,79 @@ impl Second {
         }
     }
 
-    // Nodes are counted from 1 by calls, and from 0 here.
-    fn place(&self, node: usize) -> Result<usize, Refusal> {
-        if node == 0 || self.count < node {
-            Err(Refusal::Node { place: node })
-        } else {
-            Ok(node.wrapping_sub(1))
-        }
-    }
-
     // What a row leaves of its node's span.
-    fn left(&self, drum: &[Row<Place>], own: usize) -> Option<Span> {
-        let row = drum.get(own)?;
-        let mut rest = span(&row.side);
-        for (j, (place, x)) in row.coefficients.iter().zip(self.spans.iter()).enumerate() {
-            if j != own {
-                rest = rest.minus(x.product(span(place)));
+    fn left(&self, drum: &Drum, row: usize) -> Option<Span> {
+        let mut rest = drum.span(row, drum.size);
+        for column in 0..drum.size {
+            if column != row {
+                let taken = self.at(column).product(drum.span(row, column));
+                rest = rest.minus(taken);
             }
         }
-        let diagonal = span(row.coefficients.get(own)?);
-        self.at(own).shared(rest.quotient(diagonal)?)
+        self.at(row).shared(rest.quotient(drum.span(row, row)))
     }
 
     // Gives a node a span, where there is one, and says whether that changed it.
     fn take(&mut self, i: usize, span: Option<Span>) -> Result<bool, Refusal> {
-        let span = span.ok_or(Refusal::Conflict {
-            place: i.wrapping_add(1),
-        })?;
+        let Some(span) = span else {
+            let place = i.wrapping_add(1);
+            return Err(Refusal::Conflict { place });
+        };
         let changed = self.at(i) != span;
         self.put(i, span);
         Ok(changed)
     }
 
-    fn step(&mut self, drum: &[Row<Place>], i: usize) -> Result<bool, Refusal> {
-        let left = self.left(drum, i);
-        self.take(i, left)
+    pub(crate) fn step(&mut self, drum: &Drum, node: usize) -> Result<bool, Refusal> {
+        if node == 0 || drum.size < node {
+            return Err(Refusal::Node { place: node });
+        }
+        let row = node.wrapping_sub(1);
+        let left = self.left(drum, row);
+        self.take(row, left)
     }
 
-    fn round(&mut self, drum: &[Row<Place>]) -> Result<usize, Refusal> {
+    pub(crate) fn round(&mut self, drum: &Drum) -> Result<usize, Refusal> {
         let mut next = *self;
         let mut changes = 0usize;
-        for i in 0..self.count {
-            if next.step(drum, i)? {
-                changes = changes.wrapping_add(1);
-            }
+        for node in 1..=drum.size {
+            changes = changes.wrapping_add(usize::from(next.step(drum, node)?));
         }
         *self = next;
         Ok(changes)
     }
 
-    fn read(&mut self, node: usize, lower: i64, upper: i64) -> Result<bool, Refusal> {
-        let i = self.place(node)?;
-        if upper < lower {
-            return Err(Refusal::Crossed { place: node });
+    pub(crate) fn read(&mut self, drum: &Drum, reading: &Reading) -> Result<bool, Refusal> {
+        let place = reading.node;
+        if place == 0 || drum.size < place {
+            return Err(Refusal::Node { place });
         }
-        let read = Span {
-            low: i128::from(lower),
-            high: i128::from(upper),
-        };
-        let left = self.at(i).shared(read);
+        if reading.upper < reading.lower {
+            return Err(Refusal::Crossed { place });
+        }
+        let i = place.wrapping_sub(1);
+        let left = self.at(i).shared(Span::new(reading.lower, reading.upper));
         self.take(i, left)
     }
 
-    fn mark(&mut self, record: &mut Reading) {
-        record.answer = match self.read(record.node, record.lower, record.upper) {
-            Ok(_) => 0,
-            Err(refusal) => refusal.number(),
-        };
-    }
-
-    pub(crate) fn rests(&self, drum: &[Row<Place>]) -> bool {
-        (0..self.count).all(|i| self.left(drum, i) == Some(self.at(i)))
-    }
-
-    fn ends(&self, node: usize) -> Result<(i64, i64), Refusal> {
-        let i = self.place(node)?;
-        self.at(i).ends().ok_or(Refusal::Node { place: node })
-    }
-
-    // Makes a call, and writes the answers of a list into its records.
-    pub(crate) fn made(&mut self, drum: &[Row<Place>], call: &mut Call) -> Result<Answer, Refusal> {
-        match *call {
-            Call::RowStep { node } => {
-                let i = self.place(node)?;
-                Ok(Answer::Changed(self.step(drum, i)?))
-            }
-            Call::Round => Ok(Answer::Changes(self.round(drum)?)),
-            Call::Reading { node, lower, upper } => {
-                Ok(Answer::Changed(self.read(node, lower, upper)?))
-            }
-            Call::Readings { ref mut records } => {
-                for record in records.iter_mut() {
-                    self.mark(record);
-                }
-                Ok(Answer::Done)
-            }
-            Call::AtRest => Ok(Answer::AtRest(self.rests(drum))),
-            Call::Ends { node } => Ok(Answer::Ends(self.ends(node)?)),
-        }
-    }
-
     // Steps from the last row to the first; whether one changed its span.
-    fn pass(&mut self, drum: &[Row<Place>]) -> Result<bool, Refusal> {
+    fn pass(&mut self, drum: &Drum) -> Result<bool, Refusal> {
         let mut changed = false;
-        for i in (0..self.count).rev() {
-            if self.step(drum, i)? {
-                changed = true;
-            }
+        for node in (1..=drum.size).rev() {
+            changed |= self.step(drum, node)?;
         }
         Ok(changed)
     }
 
-    // Passes until one changes nothing; whether that came within the passes that are given.
-    pub(crate) fn settle(&mut self, drum: &[Row<Place>]) -> Result<bool, Refusal> {
-        for _ in 0..PASSES {
+    // Whether a pass would change nothing.
+    pub(crate) fn rests(&self, drum: &Drum) -> bool {
+        let mut next = *self;
+        next.pass(drum) == Ok(false)
+    }
+
+    // Passes until one changes nothing; whether that came within 120.
+    pub(crate) fn settle(&mut self, drum: &Drum) -> Result<bool, Refusal> {
+        for _ in 0..120 {
             if !self.pass(drum)? {
                 return Ok(true);
             }

@@ -1,49 +1,30 @@
 // Ranges in wide numbers. No sum or product of this program reaches 2^110, so nothing wraps.
-use balance::range::Range;
-
-#[derive(Clone, Copy, PartialEq, Eq, Debug)]
+#[derive(Clone, Copy, PartialEq, Eq)]
 pub(crate) struct Span {
     pub low: i128,
     pub high: i128,
 }
 
-// The quotient rounded down: toward zero first, and one less where a remainder and the divisor differ in sign.
-fn floor(number: i128, divisor: i128) -> Option<i128> {
-    let quotient = number.checked_div(divisor)?;
-    let remainder = number.checked_rem(divisor)?;
-    if remainder != 0 && (remainder < 0) != (divisor < 0) {
-        quotient.checked_sub(1)
-    } else {
-        Some(quotient)
-    }
+// The quotient rounded down: toward zero first, and one less where a remainder and the divisor differ in sign. No divisor is 0.
+fn floor(number: i128, divisor: i128) -> i128 {
+    let quotient = number.checked_div(divisor).unwrap_or(0);
+    let remainder = number.checked_rem(divisor).unwrap_or(0);
+    let below = remainder != 0 && (remainder < 0) != (divisor < 0);
+    quotient.wrapping_sub(i128::from(below))
 }
 
-// The quotient rounded up: one more where a remainder and the divisor have the same sign.
-pub(crate) fn ceiling(number: i128, divisor: i128) -> Option<i128> {
-    let quotient = number.checked_div(divisor)?;
-    let remainder = number.checked_rem(divisor)?;
-    if remainder != 0 && (remainder < 0) == (divisor < 0) {
-        quotient.checked_add(1)
-    } else {
-        Some(quotient)
-    }
+pub(crate) fn ceiling(number: i128, divisor: i128) -> i128 {
+    floor(number.wrapping_neg(), divisor).wrapping_neg()
 }
 
 impl Span {
     pub(crate) const ZERO: Span = Span { low: 0, high: 0 };
 
-    pub(crate) fn new(range: Range) -> Span {
+    pub(crate) fn new(lower: i64, upper: i64) -> Span {
         Span {
-            low: i128::from(range.lower),
-            high: i128::from(range.upper),
+            low: i128::from(lower),
+            high: i128::from(upper),
         }
-    }
-
-    // The two ends as the library answers them.
-    pub(crate) fn ends(self) -> Option<(i64, i64)> {
-        let low = i64::try_from(self.low).ok()?;
-        let high = i64::try_from(self.high).ok()?;
-        Some((low, high))
     }
 
     // The largest absolute value.
@@ -69,15 +50,19 @@ impl Span {
 
     // Each number times one factor.
     pub(crate) fn times(self, factor: i128) -> Span {
-        let low = self.low.wrapping_mul(factor);
-        let high = self.high.wrapping_mul(factor);
-        if factor < 0 {
-            Span {
-                low: high,
-                high: low,
-            }
-        } else {
-            Span { low, high }
+        let p = self.low.wrapping_mul(factor);
+        let q = self.high.wrapping_mul(factor);
+        Span {
+            low: p.min(q),
+            high: p.max(q),
+        }
+    }
+
+    // Each number over one divisor, rounded outward.
+    fn over(self, divisor: i128) -> Span {
+        Span {
+            low: floor(self.low, divisor).min(floor(self.high, divisor)),
+            high: ceiling(self.low, divisor).max(ceiling(self.high, divisor)),
         }
     }
 
@@ -94,27 +79,9 @@ impl Span {
         self.times(other.low).joined(self.times(other.high))
     }
 
-    // The quotients by one divisor, rounded outward.
-    fn over(self, divisor: i128) -> Option<Span> {
-        let (low, high) = if divisor < 0 {
-            (self.high, self.low)
-        } else {
-            (self.low, self.high)
-        };
-        Some(Span {
-            low: floor(low, divisor)?,
-            high: ceiling(high, divisor)?,
-        })
-    }
-
-    // Every quotient, rounded outward: the quotients by either end of the divisor, which must not hold 0.
-    pub(crate) fn quotient(self, divisor: Span) -> Option<Span> {
-        if divisor.holds(0) {
-            return None;
-        }
-        let by_low = self.over(divisor.low)?;
-        let by_high = self.over(divisor.high)?;
-        Some(by_low.joined(by_high))
+    // Every quotient, rounded outward: the quotients by either end of the divisor, which does not hold 0.
+    pub(crate) fn quotient(self, divisor: Span) -> Span {
+        self.over(divisor.low).joined(self.over(divisor.high))
     }
 
     pub(crate) fn shared(self, other: Span) -> Option<Span> {

@@ -1,11 +1,9 @@
 // Random tables: a whole point is planted, so that it solves some member, and the diagonals are made to dominate under the certificate, or in one
 // row not to.
-use super::drum::{Row, told};
+use super::drum::Drum;
 use super::random::Random;
-use super::span::Span;
-use super::trial::{Trial, numbers};
+use super::second::margin;
 use balance::range::Range;
-use std::alloc::{AllocError, Global};
 
 // How large the numbers of a drum are.
 #[derive(Clone, Copy)]
@@ -21,35 +19,28 @@ pub(crate) struct Shape {
     pub warmth: i64,
     // of the right sides around what the planted point gives
     pub slack: i64,
-    // a row, counted from 0, whose diagonal does not dominate it
-    pub weak: Option<usize>,
+    // a row, counted from 0, whose diagonal does not dominate it, if there is such a row
+    pub weak: usize,
 }
 
-// Ranges, a certificate and a planted point.
-#[derive(Drop)]
-pub(crate) struct Plan {
-    pub rows: Vec<Row<Range>>,
-    pub certificate: Vec<i64>,
-    pub point: Vec<i64>,
-}
-
-impl Plan {
-    pub(crate) fn trial(self, heap: Global, part: usize) -> Result<Trial, AllocError> {
-        Ok(Trial {
-            drum: told(heap, &self.rows, part)?,
-            certificate: self.certificate,
-            point: self.point,
-        })
+// Thin or wide. Small drums have small numbers, so that solutions of members keep the limits of a point.
+pub(crate) fn any_shape(random: &mut Random, most: usize) -> Shape {
+    let size = random.below(most).wrapping_add(1);
+    let scale = if size < 4 { 2 } else { 10 };
+    Shape {
+        size,
+        reach: random.power(0, scale),
+        width: random.power(0, scale) / 2,
+        extra: random.power(0, scale.wrapping_add(2)),
+        warmth: random.power(0, scale.wrapping_mul(2)),
+        slack: random.power(0, scale.wrapping_mul(2)) / 2,
+        weak: random.below(200),
     }
 }
 
 // A range of a width from 0 up, from this lower end.
 pub(crate) fn from_end(random: &mut Random, lower: i64, width: i64) -> Range {
-    let width = if random.one_in(3) {
-        0
-    } else {
-        random.between(0, width)
-    };
+    let width = random.between(width.wrapping_neg(), width).max(0);
     Range {
         lower,
         upper: lower.wrapping_add(width),
@@ -64,110 +55,86 @@ pub(crate) fn around(random: &mut Random, number: i64, slack: i64) -> Range {
     }
 }
 
-fn negated(range: Range) -> Range {
-    Range {
-        lower: range.upper.wrapping_neg(),
-        upper: range.lower.wrapping_neg(),
+// A drum of zeros with a planted point.
+pub(crate) fn empty(random: &mut Random, shape: Shape) -> Drum {
+    let mut drum = Drum {
+        size: shape.size,
+        ranges: [Range::ZERO; 1056],
+        numbers: [1; 32],
+        point: [0; 32],
+    };
+    for node in 0..shape.size.min(32) {
+        let cold = shape.warmth.wrapping_neg();
+        drum.point[node] = i128::from(random.between(cold, shape.warmth));
     }
+    drum
 }
 
-fn beside(heap: Global, random: &mut Random, shape: Shape) -> Result<Vec<Range>, AllocError> {
-    let mut list = Vec::new(heap);
-    for _ in 0..shape.size {
-        let lower = random.between(shape.reach.wrapping_neg(), shape.reach);
-        list.push(from_end(random, lower, shape.width))?;
-    }
-    Ok(list)
-}
-
-// The magnitudes beside the diagonal, each times its number of the certificate.
-fn weighed(ranges: &[Range], certificate: &[i64], own: usize) -> i128 {
+// What a member of a row gives at the planted point.
+pub(crate) fn value(random: &mut Random, drum: &Drum, row: usize) -> i64 {
     let mut sum = 0i128;
-    for (j, (range, number)) in ranges.iter().zip(certificate.iter()).enumerate() {
-        if j != own {
-            let magnitude = Span::new(*range).magnitude();
-            sum = sum.wrapping_add(magnitude.wrapping_mul(i128::from(*number)));
+    for (column, x) in drum.point.iter().enumerate() {
+        if column < drum.size {
+            let range = drum.range(row, column);
+            let picked = i128::from(random.between(range.lower, range.upper));
+            sum = sum.wrapping_add(picked.wrapping_mul(*x));
         }
     }
-    sum
+    i64::try_from(sum).unwrap_or(0)
 }
 
-// The least whole number that dominates, or one below it.
-fn least(others: i128, number: i64, weak: bool) -> i64 {
-    let below = others.checked_div(i128::from(number)).unwrap_or(0);
-    let below = i64::try_from(below).unwrap_or(0);
-    if weak { below } else { below.wrapping_add(1) }
-}
-
-fn weak_diagonal(random: &mut Random, most: i64, width: i64) -> Range {
-    if random.one_in(2) {
-        around(random, 0, width)
+// A diagonal that has more than it needs, or in a weak row less; one in two is negative.
+fn diagonal(random: &mut Random, shape: Shape, needed: i64, weak: bool) -> Range {
+    let lower = if weak {
+        random.between(shape.width.wrapping_neg(), needed)
     } else {
-        let lower = random.between(0, most);
-        from_end(random, lower, width)
-    }
-}
-
-fn diagonal(random: &mut Random, shape: Shape, least: i64, weak: bool) -> Range {
-    let range = if weak {
-        weak_diagonal(random, least, shape.width)
-    } else {
-        let lower = least.wrapping_add(random.between(0, shape.extra));
-        from_end(random, lower, shape.width)
+        needed.wrapping_add(random.between(1, shape.extra))
     };
-    if random.one_in(2) {
+    let range = from_end(random, lower, shape.width);
+    if random.below(2) == 0 {
         range
     } else {
-        negated(range)
+        Range {
+            lower: range.upper.wrapping_neg(),
+            upper: range.lower.wrapping_neg(),
+        }
     }
 }
 
-// What a member of a row gives at a point.
-pub(crate) fn value(random: &mut Random, ranges: &[Range], point: &[i64]) -> i64 {
-    let mut sum = 0i64;
-    for (range, x) in ranges.iter().zip(point.iter()) {
-        let picked = random.between(range.lower, range.upper);
-        sum = sum.wrapping_add(picked.wrapping_mul(*x));
+fn fill_row(random: &mut Random, shape: Shape, drum: &mut Drum, row: usize) {
+    for column in 0..shape.size {
+        let lower = random.between(shape.reach.wrapping_neg(), shape.reach);
+        drum.put(row, column, from_end(random, lower, shape.width));
     }
-    sum
+    drum.put(row, row, Range::ZERO);
+    let others = margin(drum, drum.certificate(), row).wrapping_neg();
+    let number = if row < 32 { drum.numbers[row] } else { 1 };
+    let needed = others.checked_div(i128::from(number)).unwrap_or(0);
+    let needed = i64::try_from(needed).unwrap_or(0);
+    drum.put(row, row, diagonal(random, shape, needed, row == shape.weak));
+    let middle = value(random, drum, row);
+    drum.put(row, shape.size, around(random, middle, shape.slack));
 }
 
-fn row(
-    heap: Global,
-    random: &mut Random,
-    shape: Shape,
-    own: usize,
-    certificate: &[i64],
-    point: &[i64],
-) -> Result<Row<Range>, AllocError> {
-    let mut coefficients = beside(heap, random, shape)?;
-    let weak = shape.weak == Some(own);
-    let others = weighed(&coefficients, certificate, own);
-    let number = certificate.get(own).copied().unwrap_or(1);
-    let needed = least(others, number, weak);
-    if own < coefficients.len() {
-        coefficients[own] = diagonal(random, shape, needed, weak);
+pub(crate) fn table(random: &mut Random, shape: Shape) -> Drum {
+    let mut drum = empty(random, shape);
+    for node in 0..shape.size.min(32) {
+        drum.numbers[node] = random.between(1, 4);
     }
-    let middle = value(random, &coefficients, point);
-    let side = around(random, middle, shape.slack);
-    Ok(Row { coefficients, side })
-}
-
-pub(crate) fn random_plan(
-    heap: Global,
-    random: &mut Random,
-    shape: Shape,
-) -> Result<Plan, AllocError> {
-    let certificate = numbers(heap, random, shape.size, 1, 4)?;
-    let cold = shape.warmth.wrapping_neg();
-    let point = numbers(heap, random, shape.size, cold, shape.warmth)?;
-    let mut rows = Vec::new(heap);
-    for i in 0..shape.size {
-        rows.push(row(heap, random, shape, i, &certificate, &point)?)?;
+    for row in 0..shape.size {
+        fill_row(random, shape, &mut drum, row);
     }
-    Ok(Plan {
-        rows,
-        certificate,
-        point,
-    })
+    if random.below(16) == 0 {
+        // beyond the limits of a coefficient
+        let column = random.below(shape.size);
+        drum.put(
+            random.below(shape.size),
+            column,
+            Range {
+                lower: 0,
+                upper: 1_048_577,
+            },
+        );
+    }
+    drum
 }
