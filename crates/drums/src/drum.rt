@@ -5,7 +5,7 @@ use balance::refusal::Refusal;
 
 const LARGEST_COEFFICIENT: i128 = 1_048_576;
 
-// Ranges row after row, the right side last in each; a certificate, and a whole point that solves some member.
+// Ranges row after row, the right side last in each, with room for 32 rows of 33; a certificate, and a whole point that solves some member.
 #[derive(Clone, Copy)]
 pub(crate) struct Drum {
     pub size: usize,

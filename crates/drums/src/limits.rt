@@ -1,5 +1,5 @@
 // Drums of one node at the limits and just beyond them, with answers that were found by hand.
-use super::report::{Counted, Counts, Difference, same};
+use super::report::{Counted, Difference, Report};
 use balance::range::Range;
 use balance::refusal::Refusal;
 use balance::table::Table;
@@ -61,13 +61,13 @@ fn stepped(system: Table<Range>) -> Ends {
     roast.ends(1)
 }
 
-pub(crate) fn compare(heap: Global, counts: &mut Counts) -> Result<(), Difference> {
+pub(crate) fn compare(heap: Global, report: &mut Report) -> Result<(), Difference> {
     for (number, case) in CASES.iter().enumerate() {
         let (a, b, c, d, wanted) = *case;
         let cells = [Range { lower: a, upper: b }, Range { lower: c, upper: d }];
         let answer = stepped(Table::new(1, cells.to_vec(heap)?)?);
-        same(answer == wanted, Difference::Limit(number))?;
-        counts.more(Counted::Limit);
+        report.expect(answer == wanted, Difference::Limit(number));
+        report.more(Counted::Limit);
     }
     Ok(())
 }

@@ -16,27 +16,28 @@ mod tables;
 mod trial;
 
 use random::Random;
-use report::{Counts, Difference, LABELS};
+use report::{Difference, LABELS, Report};
 use std::alloc::Global;
 use std::io;
 
 const DRUMS: u64 = 420;
 
 // Makes and compares one drum, from a seed of its own; number 0 stands for the limit cases.
-fn compare(heap: Global, number: u64, counts: &mut Counts) -> Result<(), Difference> {
+fn compare(heap: Global, number: u64, report: &mut Report) -> Result<(), Difference> {
     if number == 0 {
-        return limits::compare(heap, counts);
+        return limits::compare(heap, report);
     }
     let mut random = Random {
         state: number.wrapping_add(20_261_126),
     };
-    sorts::drum(heap, number, &mut random, counts)
+    sorts::drum(heap, number, &mut random, report)
 }
 
 // Compares drum after drum. The first that differs ends it, and is named.
-fn compare_all(rt: &HostRuntime, counts: &mut Counts) -> io::Result<()> {
+fn compare_all(rt: &HostRuntime, report: &mut Report) -> io::Result<()> {
     for number in 0..=DRUMS {
-        if let Err(difference) = compare(rt.alloc(), number, counts) {
+        let compared = compare(rt.alloc(), number, report);
+        if let Some(difference) = compared.err().or(report.difference) {
             return println!(rt; "drum {number} differs: {difference:?}");
         }
     }
@@ -44,9 +45,12 @@ fn compare_all(rt: &HostRuntime, counts: &mut Counts) -> io::Result<()> {
 }
 
 fn main(rt: HostRuntime) -> io::Result<()> {
-    let mut counts = Counts([0; 13]);
-    compare_all(&rt, &mut counts)?;
-    for (label, count) in LABELS.iter().zip(counts.0.iter()) {
+    let mut report = Report {
+        counts: [0; 13],
+        difference: None,
+    };
+    compare_all(&rt, &mut report)?;
+    for (label, count) in LABELS.iter().zip(report.counts.iter()) {
         println!(rt; "{label}: {count}")?;
     }
     Ok(())

@@ -2,9 +2,11 @@
 use super::drum::Drum;
 use super::exact::{Point, member_count, solution};
 use super::random::Random;
-use super::report::{Counted, Counts, Difference, same};
+use super::report::{Counted, Difference, Report};
 use balance::point::possible;
 use balance::system::System;
+
+const LARGEST_DENOMINATOR: i128 = 1_048_576;
 
 fn fits(drum: &Drum, point: &Point, row: usize) -> bool {
     let mut rest = drum.span(row, drum.size).times(point.denominator);
@@ -17,12 +19,7 @@ fn fits(drum: &Drum, point: &Point, row: usize) -> bool {
 }
 
 // Whether a point is possible: both answer the same.
-fn ask<S: System>(
-    system: &S,
-    drum: &Drum,
-    point: &Point,
-    counts: &mut Counts,
-) -> Result<bool, Difference> {
+fn ask<S: System>(system: &S, drum: &Drum, point: &Point, report: &mut Report) -> bool {
     let mut numerators = [0; 32];
     let mut ours = true;
     for row in 0..drum.size.min(32) {
@@ -31,13 +28,13 @@ fn ask<S: System>(
     }
     let denominator = i64::try_from(point.denominator).unwrap_or(0);
     let theirs = possible(system, &numerators[..drum.size.min(32)], denominator);
-    same(theirs == Ok(ours), Difference::Point)?;
-    counts.more(if ours {
+    report.expect(theirs == Ok(ours), Difference::Point);
+    report.more(if ours {
         Counted::Possible
     } else {
         Counted::NotPossible
     });
-    Ok(ours)
+    ours
 }
 
 // Moves a component away and halves the way between a possible point and one that is not, so that it asks for points ever nearer to the edge.
@@ -46,8 +43,8 @@ fn ask_at_the_edge<S: System>(
     drum: &Drum,
     point: &Point,
     node: usize,
-    counts: &mut Counts,
-) -> Result<(), Difference> {
+    report: &mut Report,
+) {
     let mut inside = 0i128;
     let mut outside = 1i128 << 30;
     for _ in 0..32 {
@@ -56,16 +53,13 @@ fn ask_at_the_edge<S: System>(
         if node < 32 {
             moved.numerators[node] = moved.numerators[node].wrapping_add(middle);
         }
-        if ask(system, drum, &moved, counts)? {
+        if ask(system, drum, &moved, report) {
             inside = middle;
         } else {
             outside = middle;
         }
     }
-    Ok(())
 }
-
-const LARGEST_DENOMINATOR: i128 = 1_048_576;
 
 // The planted point and each member's solution are possible; from some of them the edge is sought. A solution beyond the limits of a point is not
 // asked for.
@@ -73,19 +67,20 @@ pub(crate) fn compare<S: System>(
     system: &S,
     drum: &Drum,
     random: &mut Random,
-    counts: &mut Counts,
-) -> Result<(), Difference> {
+    report: &mut Report,
+) {
     for member in 0..=member_count(drum.size) {
-        if let Some(point) = solution(drum, member) {
-            counts.more(Counted::Member);
-            if LARGEST_DENOMINATOR < point.denominator {
-                continue;
-            }
-            same(ask(system, drum, &point, counts)?, Difference::Point)?;
-            if random.below(512) == 0 || member == member_count(drum.size) {
-                ask_at_the_edge(system, drum, &point, random.below(drum.size), counts)?;
-            }
+        let Some(point) = solution(drum, member) else {
+            continue;
+        };
+        report.more(Counted::Member);
+        if LARGEST_DENOMINATOR < point.denominator {
+            continue;
+        }
+        let possible = ask(system, drum, &point, report);
+        report.expect(possible, Difference::Point);
+        if random.below(512) == 0 || member == member_count(drum.size) {
+            ask_at_the_edge(system, drum, &point, random.below(drum.size), report);
         }
     }
-    Ok(())
 }

@@ -36,14 +36,24 @@ pub(crate) const LABELS: [&str; 13] = [
     "limit cases",
 ];
 
-// How often, by what is counted.
+// How often, by what is counted, and the first difference that was met.
 #[derive(Clone, Copy)]
-pub(crate) struct Counts(pub [u64; 13]);
+pub(crate) struct Report {
+    pub counts: [u64; 13],
+    pub difference: Option<Difference>,
+}
 
-impl Counts {
+impl Report {
     pub(crate) fn more(&mut self, counted: Counted) {
-        if let Some(count) = self.0.get_mut(counted as usize) {
+        if let Some(count) = self.counts.get_mut(counted as usize) {
             *count = count.wrapping_add(1);
+        }
+    }
+
+    // Notes a difference where something does not hold.
+    pub(crate) fn expect(&mut self, holds: bool, difference: Difference) {
+        if !holds && self.difference.is_none() {
+            self.difference = Some(difference);
         }
     }
 }
@@ -84,8 +94,4 @@ impl<T: Drop> From<Returned<T>> for Difference {
     fn from(_: Returned<T>) -> Difference {
         Difference::Making
     }
-}
-
-pub(crate) fn same(holds: bool, difference: Difference) -> Result<(), Difference> {
-    if holds { Ok(()) } else { Err(difference) }
 }

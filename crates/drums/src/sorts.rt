@@ -1,7 +1,7 @@
 // The sorts of drums: as what they are keyed in.
 use super::random::Random;
 use super::records::network;
-use super::report::{Counts, Difference};
+use super::report::{Difference, Report};
 use super::tables::{any_shape, table};
 use super::trial::compare;
 use balance::table::Table;
@@ -10,20 +10,22 @@ use systems::network::Network;
 use systems::renumbering::Renumbering;
 use systems::row_scaler::RowScaler;
 
-fn ranges(heap: Global, random: &mut Random, counts: &mut Counts) -> Result<(), Difference> {
+fn ranges(heap: Global, random: &mut Random, report: &mut Report) -> Result<(), Difference> {
     let most = if random.below(8) == 0 { 32 } else { 6 };
     let shape = any_shape(random, most);
     let drum = table(random, shape);
     let cells = shape.size.wrapping_mul(shape.size.wrapping_add(1));
     let system = Table::new(shape.size, drum.ranges[..cells.min(1056)].to_vec(heap)?)?;
-    compare(heap, system, &drum, random, counts)
+    compare(system, &drum, random, report);
+    Ok(())
 }
 
-fn links(heap: Global, random: &mut Random, counts: &mut Counts) -> Result<(), Difference> {
+fn links(heap: Global, random: &mut Random, report: &mut Report) -> Result<(), Difference> {
     let shape = any_shape(random, 6);
     let (records, drum) = network(heap, random, shape)?;
     let system = Network::new(shape.size, records)?;
-    compare(heap, system, &drum, random, counts)
+    compare(system, &drum, random, report);
+    Ok(())
 }
 
 // The nodes from some node on, and then those before it.
@@ -52,7 +54,7 @@ fn small_factors(random: &mut Random) -> [i64; 32] {
 }
 
 // A network with its nodes in another order, and each row times a factor.
-fn layers(heap: Global, random: &mut Random, counts: &mut Counts) -> Result<(), Difference> {
+fn layers(heap: Global, random: &mut Random, report: &mut Report) -> Result<(), Difference> {
     let shape = any_shape(random, 4);
     let (records, drum) = network(heap, random, shape)?;
     let count = shape.size.min(32);
@@ -61,7 +63,8 @@ fn layers(heap: Global, random: &mut Random, counts: &mut Counts) -> Result<(), 
     let layered = drum.layered(&order, &factors);
     let renumbered = Renumbering::new(Network::new(shape.size, records)?, order)?;
     let system = RowScaler::new(renumbered, factors)?;
-    compare(heap, system, &layered, random, counts)
+    compare(system, &layered, random, report);
+    Ok(())
 }
 
 // One drum after the other, of each sort in turn.
@@ -69,11 +72,11 @@ pub(crate) fn drum(
     heap: Global,
     number: u64,
     random: &mut Random,
-    counts: &mut Counts,
+    report: &mut Report,
 ) -> Result<(), Difference> {
     match number % 3 {
-        0 => ranges(heap, random, counts),
-        1 => links(heap, random, counts),
-        _ => layers(heap, random, counts),
+        0 => ranges(heap, random, report),
+        1 => links(heap, random, report),
+        _ => layers(heap, random, report),
     }
 }

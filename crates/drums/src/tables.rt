@@ -116,6 +116,7 @@ fn fill_row(random: &mut Random, shape: Shape, drum: &mut Drum, row: usize) {
     drum.put(row, shape.size, around(random, middle, shape.slack));
 }
 
+// A table's ranges, its certificate and its planted point.
 pub(crate) fn table(random: &mut Random, shape: Shape) -> Drum {
     let mut drum = empty(random, shape);
     for node in 0..shape.size.min(32) {
@@ -124,8 +125,8 @@ pub(crate) fn table(random: &mut Random, shape: Shape) -> Drum {
     for row in 0..shape.size {
         fill_row(random, shape, &mut drum, row);
     }
+    // One in 16 has a coefficient beyond its limits.
     if random.below(16) == 0 {
-        // beyond the limits of a coefficient
         let column = random.below(shape.size);
         drum.put(
             random.below(shape.size),
