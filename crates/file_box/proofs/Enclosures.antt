@@ -40,11 +40,11 @@ module _ (m : Meaning) where
           on false e = more c e
       by more (stopped i) e = cc
 
-  none_accepted : (k : ℕ) (box : Box) → accepted m box (rounds k) ≡ []
+  pub none_accepted : (k : ℕ) (box : Box) → accepted m box (rounds k) ≡ []
   none_accepted zero box = refl
   none_accepted (suc k) box = none_accepted k (outcome m box round).box
 
-  nothing_read : (x : Point) (bs : List Bound) → bs ≡ [] → InAll x bs
+  pub nothing_read : (x : Point) (bs : List Bound) → bs ≡ [] → InAll x bs
   nothing_read x bs e = subst (InAll x) (sym e) (λ b among. elim among [ ])
 
   pub encloses : (us : List ℤ) → Lawful m → EnclosesIfFound m (found m us)

@@ -12,7 +12,7 @@ use roast::roast::Roast;
 const ROUNDS: usize = 64;
 
 // Makes rounds until one changes nothing, 64 at most.
-fn settle<S: System>(roast: &mut Roast<S>) -> Result<(), Refusal>
+pub fn settle<S: System>(roast: &mut Roast<S>) -> Result<(), Refusal>
     ensures settles { MatchResult result (λ done. Ok roast.new.bounds ≡ settled (S.meaning roast.old.system) roast.old.bounds 64) (λ e. Err e ≡ settled (S.meaning roast.old.system) roast.old.bounds 64) }
     ensures keeps_the_nodes { length roast.new.bounds ≡ length roast.old.bounds }
     ensures keeps_the_system { roast.new.system ≡ roast.old.system }

@@ -1,0 +1,5 @@
+pub mod Taken
+pub mod Boxes
+pub mod Solutions
+pub mod Calls
+pub mod Outcomes
