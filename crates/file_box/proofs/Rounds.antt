@@ -7,7 +7,7 @@ use Rattle.roast.specs.declared.call.Answer.TheVariants.{Changes}
 use Rattle.roast.specs.Narrowing.{Box}
 use Rattle.roast.specs.Machine.{round, outcome}
 use Rattle.roast.proofs.Moves.{move_long, call_moves}
-use Rattle.file_box.specs.Findings.{settled}
+use Rattle.file_box.specs.Findings.{settled, left_by_rounds}
 
 pub round_long : (m : Meaning) (box next : Box) → next ≡ (outcome m box round).box → length next ≡ length box
 round_long m box next e = ap length e ∙ move_long (call_moves m box round)
@@ -28,3 +28,21 @@ round_refused m box r k a = rw (sym a) refl
 pub no_round : (m : Meaning) (box : Box) → settled m box 0 ≡ Ok box
 unfolding settled
 no_round m box = refl
+
+-- ---- the same of the box that is left
+
+pub more_left : (m : Meaning) (box next : Box) (n k : ℕ) → Ok (Changes n) ≡ (outcome m box round).answer → next ≡ (outcome m box round).box → (n ≡ 0 → ⊥) → left_by_rounds m box (suc k) ≡ left_by_rounds m next k
+unfolding left_by_rounds
+more_left m box next n k a e h = rw (sym a, sym e, ne_eqb n 0 h) refl
+
+pub still_left : (m : Meaning) (box next : Box) (n k : ℕ) → Ok (Changes n) ≡ (outcome m box round).answer → next ≡ (outcome m box round).box → n ≡ 0 → left_by_rounds m box (suc k) ≡ next
+unfolding left_by_rounds
+still_left m box next n k a e h = rw (sym a, sym e, eq-eqb n 0 h) refl
+
+pub refused_left : (m : Meaning) (box next : Box) (r : Refusal) (k : ℕ) → Err r ≡ (outcome m box round).answer → next ≡ (outcome m box round).box → left_by_rounds m box (suc k) ≡ next
+unfolding left_by_rounds
+refused_left m box next r k a e = rw (sym a, sym e) refl
+
+pub none_left : (m : Meaning) (box : Box) → left_by_rounds m box 0 ≡ box
+unfolding left_by_rounds
+none_left m box = refl

@@ -29,6 +29,20 @@ unfoldable pub settled : Meaning → Box → ℕ → Result Box Refusal
 settled m box zero = Ok box
 settled m box (suc k) = after_round (outcome m box round).answer (outcome m box round).box (settled m (outcome m box round).box k)
 
+-- a round that changed something is followed by those that are left, and any other by none
+abbrev pub unless_done : Result Answer Refusal → Box → Box → Box
+unless_done (Ok (Changes n)) box more = cond (n == 0) box more
+unless_done (Ok (Changed c)) box more = box
+unless_done (Ok Done) box more = box
+unless_done (Ok (AtRest rests)) box more = box
+unless_done (Ok (Ends e)) box more = box
+unless_done (Err r) box more = box
+
+-- the box that these rounds leave: that of the rounds before, if one is refused
+unfoldable pub left_by_rounds : Meaning → Box → ℕ → Box
+left_by_rounds m box zero = box
+left_by_rounds m box (suc k) = unless_done (outcome m box round).answer (outcome m box round).box (left_by_rounds m (outcome m box round).box k)
+
 -- from the first box
 abbrev pub settled_first : Meaning → Result Box Refusal → Result Box Refusal
 settled_first m (Ok box) = settled m box 64

@@ -1,6 +1,6 @@
 ghost use Rattle.std.specs.Prelude.{◌≡◌, ◌≤◌, length, Ok, Err, MatchResult, IfOk, IsOk};
 ghost use Rattle.heat_file.specs.Reports.{length_or_no_room, put_in_front};
-ghost use Rattle.file_box.specs.Findings.{settled, found, report, system_report, EnclosesIfFound};
+ghost use Rattle.file_box.specs.Findings.{settled, left_by_rounds, found, report, system_report, EnclosesIfFound};
 
 use arrayvec::ArrayVec;
 use balance::range::Range;
@@ -11,9 +11,10 @@ use roast::roast::Roast;
 
 const ROUNDS: usize = 64;
 
-// Makes rounds until one changes nothing, 64 at most.
+// Makes rounds until one changes nothing, 64 at most. It is its rounds: if one is refused, those before it stand.
 pub fn settle<S: System>(roast: &mut Roast<S>) -> Result<(), Refusal>
     ensures settles { MatchResult result (λ done. Ok roast.new.bounds ≡ settled (S.meaning roast.old.system) roast.old.bounds 64) (λ e. Err e ≡ settled (S.meaning roast.old.system) roast.old.bounds 64) }
+    ensures leaves_what_the_rounds_made { roast.new.bounds ≡ left_by_rounds (S.meaning roast.old.system) roast.old.bounds 64 }
     ensures keeps_the_nodes { length roast.new.bounds ≡ length roast.old.bounds }
     ensures keeps_the_system { roast.new.system ≡ roast.old.system }
 {
