@@ -11,9 +11,10 @@ use super::trailer::data_lines;
 use balance::range::Range;
 use balance::refusal::Refusal;
 
-// What a file of 32 nodes gives.
+// The most nodes of a file.
 const NODES: usize = 32;
 
+// The cells of so many.
 const CELLS: usize = 1_056;
 
 // Fills cells, row after row with the right side last, and a certificate with what a file says, and answers its size.
@@ -58,7 +59,7 @@ pub fn size_of_file(file: &[u8]) -> Result<usize, Refusal>
     check_lines(lines, place)
 }
 
-// Puts what a file says into lists with room for any file, and answers its size. Of a refused file they hold what came before the fault.
+// Puts what a file says into lists with room for any file, and answers its size. Of a refused file they hold what stood before the fault.
 fn read_entries(file: &[u8], cells: &mut [Range], certificate: &mut [i64]) -> Result<usize, Refusal>
     requires has_cells { 1056 ≤ length cells.old }
     requires has_weights { 32 ≤ length certificate.old }
