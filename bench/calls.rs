@@ -94,7 +94,10 @@ impl Case {
 }
 
 fn accepted(reply: Reply) -> usize {
-    assert_eq!(reply.refusal, 0, "an input of the benchmark is refused: {reply:?}");
+    assert_eq!(
+        reply.refusal, 0,
+        "an input of the benchmark is refused: {reply:?}"
+    );
     reply.value
 }
 

@@ -59,13 +59,28 @@ fn chain<S: Side>(drum: &Drum, seed: u64) -> (Vec<Reply>, Vec<Vec<Range>>) {
         boxes.push(vec![ends]);
     }
     let n = given.size;
-    replies.push(S::possible(n, given.cells, &drum.numerators, drum.denominator));
+    replies.push(S::possible(
+        n,
+        given.cells,
+        &drum.numerators,
+        drum.denominator,
+    ));
     (replies, boxes)
 }
 
 fn beyond(random: &mut Random) -> i64 {
     let sign = 1 - 2 * random.below(2) as i64;
-    let limits = [i64::MAX, (1 << 42) + 1, 1 << 42, (1 << 37) + 1, 1 << 30, (1 << 20) + 1, 1 << 20, 1, 0];
+    let limits = [
+        i64::MAX,
+        (1 << 42) + 1,
+        1 << 42,
+        (1 << 37) + 1,
+        1 << 30,
+        (1 << 20) + 1,
+        1 << 20,
+        1,
+        0,
+    ];
     sign * limits[random.below(limits.len() as u64) as usize]
 }
 
@@ -84,7 +99,11 @@ fn damaged(mut drum: Drum, random: &mut Random) -> Drum {
         7 => drop(drum.certificate.pop()),
         8 => drum.numerators[node] += random.from_to(-40_000_000, 40_000_000),
         9 => {
-            for cell in drum.cells.chunks_mut(drum.size + 1).flat_map(|row| row.last_mut()) {
+            for cell in drum
+                .cells
+                .chunks_mut(drum.size + 1)
+                .flat_map(|row| row.last_mut())
+            {
                 *cell = Range {
                     lower: cell.lower.saturating_mul(9_000),
                     upper: cell.upper.saturating_mul(9_000),
@@ -144,14 +163,20 @@ pub fn files(count: u64) -> Refusals {
             3 => drop(file.remove(place)),
             4 => {
                 let mut lines: Vec<&[u8]> = file.split_inclusive(|byte| *byte == b'\n').collect();
-                let (i, j) = (random.below(lines.len() as u64), random.below(lines.len() as u64));
+                let (i, j) = (
+                    random.below(lines.len() as u64),
+                    random.below(lines.len() as u64),
+                );
                 lines.swap(i as usize, j as usize);
                 file = lines.concat();
             }
             _ => {}
         }
         let room = match random.below(8) {
-            0 => (random.below(CELLS as u64) as usize, random.below(NODES as u64) as usize),
+            0 => (
+                random.below(CELLS as u64) as usize,
+                random.below(NODES as u64) as usize,
+            ),
             _ => (CELLS, NODES),
         };
         let library = read::<Library>(&file, room);

@@ -84,7 +84,10 @@ impl Drum {
         let size = 32;
         let cells = (0..size * (size + 1)).map(|_| {
             let lower = -long();
-            Range { lower, upper: lower + 1 }
+            Range {
+                lower,
+                upper: lower + 1,
+            }
         });
         Drum {
             size,
@@ -114,7 +117,10 @@ fn row(random: &mut Random, node: usize, temperatures: &[i64]) -> Vec<Range> {
         lower: others + room,
         upper: others + room + room / 100,
     };
-    let middle = row.iter().zip(temperatures).map(|(a, t)| (a.lower + a.upper) / 2 * t);
+    let middle = row
+        .iter()
+        .zip(temperatures)
+        .map(|(a, t)| (a.lower + a.upper) / 2 * t);
     let side: i64 = middle.sum();
     let watts = random.from_to(1_000_000, 20_000_000);
     row.push(Range {

@@ -102,7 +102,9 @@ fn measure_drum(size: usize) {
     compare::measured(&case, &DRUM_CALLS);
     let [open, round, settle, settled, at_rest, ends, possible] = take(DRUM_CALLS, &case);
     open.print(size, "opening");
-    settle.over(&settled, case.rounds - 1).print(size, "a round alone");
+    settle
+        .over(&settled, case.rounds - 1)
+        .print(size, "a round alone");
     at_rest.over(&ends, 1).print(size, "at rest alone");
     settle.print(size, &format!("settling ({} rounds)", case.rounds));
     round.print(size, "a round as a call");
@@ -129,8 +131,14 @@ fn measure_files() {
 }
 
 fn print_refusals(what: &str, refusals: &Refusals) {
-    let counts: Vec<String> = refusals.iter().map(|(n, count)| format!("{n}: {count}")).collect();
-    println!("{what} agree; calls by refusal (0: accepted): {}", counts.join(", "));
+    let counts: Vec<String> = refusals
+        .iter()
+        .map(|(n, count)| format!("{n}: {count}"))
+        .collect();
+    println!(
+        "{what} agree; calls by refusal (0: accepted): {}",
+        counts.join(", ")
+    );
 }
 
 fn compare() {
@@ -147,7 +155,10 @@ fn measure() {
 
 /// Makes one call once. Size 0 is the file of longest numbers.
 fn count(call: &str, size: usize, side: &str) {
-    let call = Call::ALL.into_iter().find(|it| it.name() == call).expect("a call");
+    let call = Call::ALL
+        .into_iter()
+        .find(|it| it.name() == call)
+        .expect("a call");
     let case = match size {
         0 => files().into_iter().next_back().expect("a file").1,
         _ => Case::new(Drum::new(size), 0),

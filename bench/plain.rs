@@ -71,7 +71,11 @@ impl Range {
 
     /// What a cell with these ends says: nothing where they are crossed.
     fn told(self) -> Range {
-        if self.is_in_order() { self } else { Range::ZERO }
+        if self.is_in_order() {
+            self
+        } else {
+            Range::ZERO
+        }
     }
 
     fn magnitude(self) -> u64 {
@@ -621,7 +625,10 @@ fn data_lines(file: &[u8]) -> Option<(usize, &[u8])> {
         return None;
     }
     let text = file.strip_suffix(b"\n")?;
-    let from = text.iter().rposition(|byte| *byte == b'\n').map_or(0, |i| i + 1);
+    let from = text
+        .iter()
+        .rposition(|byte| *byte == b'\n')
+        .map_or(0, |i| i + 1);
     let (front, trailer) = text.split_at(from);
     let [place, count] = numbers(trailer.strip_prefix(b"end ")?)?;
     let place = usize::try_from(place).ok()?;
@@ -666,7 +673,13 @@ impl Reader {
         Ok(())
     }
 
-    fn put(&mut self, row: usize, column: usize, range: Range, place: usize) -> Result<(), Refusal> {
+    fn put(
+        &mut self,
+        row: usize,
+        column: usize,
+        range: Range,
+        place: usize,
+    ) -> Result<(), Refusal> {
         if !range.is_in_order() {
             return Err(Refusal::Crossed(place));
         }

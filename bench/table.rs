@@ -24,7 +24,10 @@ impl Line {
     fn print(&self) {
         let (library, plain) = (median(&self.library), median(&self.plain));
         let ratio = library / plain;
-        print!("{:>4}  {:<38}{library:>10.0}{plain:>10.0}{ratio:>8.2}", self.size, self.name);
+        print!(
+            "{:>4}  {:<38}{library:>10.0}{plain:>10.0}{ratio:>8.2}",
+            self.size, self.name
+        );
         if self.library.len() > 1 {
             let ratios = self.library.iter().zip(&self.plain).map(|(l, p)| l / p);
             let least = ratios.clone().fold(f64::INFINITY, f64::min);
@@ -44,7 +47,9 @@ pub fn print() {
         let [size, name, library, plain] = words[..] else {
             panic!("no line of a table: {words:?}");
         };
-        let at = lines.iter().position(|line| line.size == size && line.name == name);
+        let at = lines
+            .iter()
+            .position(|line| line.size == size && line.name == name);
         let at = at.unwrap_or_else(|| {
             lines.push(Line {
                 size: size.into(),
@@ -57,7 +62,10 @@ pub fn print() {
         lines[at].library.push(library.parse().expect("a number"));
         lines[at].plain.push(plain.parse().expect("a number"));
     }
-    println!("{:>4}  {:<38}{:>10}{:>10}{:>8}", "n", "", "library", "plain", "ratio");
+    println!(
+        "{:>4}  {:<38}{:>10}{:>10}{:>8}",
+        "n", "", "library", "plain", "ratio"
+    );
     for line in lines {
         line.print();
     }
