@@ -1,5 +1,5 @@
 -- Laws of `cut` and `ended`.
-use Rattle.std.proofs.Common.{◌≡◌, ℕ, Bool, true, false, cond, eqb, List, [], ◌∷◌, ◌++◌, sym, refl, ap, ◌∙◌, append_assoc, append-nil, arith}
+use Rattle.std.proofs.Common.{◌≡◌, ℕ, zero, suc, ◌+◌, Bool, true, false, cond, eqb, List, [], ◌∷◌, ◌++◌, length, get_or, take, sym, refl, ap, ◌∙◌, append_assoc, append-nil, arith}
 use Rattle.std.specs.List.{AllByRecursion}
 use Rattle.std.proofs.lemmas.Bool.{eq-eqb, eqb-true}
 use Rattle.heat_file.specs.Cuts.{cut, onto, ended, closed, Free}
@@ -73,3 +73,17 @@ free_append s (c ∷ a) b f g = (f.0, free_append s a b f.1 g)
 
 pub cut_all : (s : ℕ) (ps : List (List ℕ)) → AllByRecursion (Free s) ps → cut s (ended s ps) ≡ ps
 cut_all s ps f = ap (cut s) (sym (append-nil (ended s ps))) ∙ (cut_ended s ps [] f ∙ append-nil ps)
+
+pub closed_last : (s : ℕ) (u : List ℕ) (k : ℕ) → length u ≡ k + 1 → closed s u ≡ true → get_or u k 0 ≡ s
+closed_last s [] k e h = absurd (omega arith)
+closed_last s (c ∷ []) zero e h = eqb-true c s h
+closed_last s (c ∷ []) (suc k) e h = absurd (omega arith)
+closed_last s (c ∷ (d ∷ ds)) zero e h = absurd (omega arith)
+closed_last s (c ∷ (d ∷ ds)) (suc k) e h = closed_last s (d ∷ ds) k (omega arith) h
+
+pub but_last : (u : List ℕ) (s k : ℕ) → length u ≡ k + 1 → get_or u k 0 ≡ s → take k u ++ (s ∷ []) ≡ u
+but_last [] s k e h = absurd (omega arith)
+but_last (c ∷ []) s zero e h = ap (λ c. c ∷ []) (sym h)
+but_last (c ∷ []) s (suc k) e h = absurd (omega arith)
+but_last (c ∷ (d ∷ ds)) s zero e h = absurd (omega arith)
+but_last (c ∷ (d ∷ ds)) s (suc k) e h = ap (λ l. c ∷ l) (but_last (d ∷ ds) s k (omega arith) h)

@@ -1,6 +1,5 @@
 -- The laws of a call that fills from a file, from what it answers and leaves.
 use Rattle.std.proofs.Common.{◌≡◌, ℕ, ◌+◌, ◌-◌, ◌*◌, ◌≤◌, Bool, true, false, cond, List, ◌∷◌, map, length, get_or, drop, ℤ, pos, Some, None, Option, Ok, Err, Result, ◌⊎◌, inl, inr, sym, refl, ap, ◌∙◌, subst, arith}
-use native.Mathlib.Nat.{mul-le-mul_right}
 use Rattle.std.proofs.lemmas.Bool.{le-leb, leb-true, and_parts, and_from, true≢false}
 use Rattle.balance.specs.declared.range.Range.{Range}
 use Rattle.balance.specs.declared.refusal.Refusal.{Refusal}
@@ -18,7 +17,7 @@ use Rattle.heat_file.specs.Laws.{HasRoom, AcceptsFiles, TellsSize, WantsRoom, Wa
 use Rattle.heat_file.proofs.Frames.{located_gives, framed_located, framed_read}
 use Rattle.heat_file.proofs.Checking.{check_from, check_gives, refused_from, refused_gives, not_line}
 use Rattle.heat_file.proofs.GoodFiles.{size_is}
-use Rattle.heat_file.proofs.Placing.{cells_hold, weights_hold, cells_long, cells_keep, weights_long, weights_keep, cleared_long, cleared_keeps}
+use Rattle.heat_file.proofs.Placing.{room_for, cells_hold, weights_hold, cells_long, cells_keep, weights_long, weights_keep, cleared_long, cleared_keeps}
 
 pub holds_read : (bs : List ℕ) (n : ℕ) (es : List Entry) → Holds bs n es → read bs ≡ Ok (Size (pos n) ∷ es)
 holds_read bs n es h = framed_read bs h.remarks (map line (Size (pos n) ∷ es)) h.framed ∙ check_from (length h.remarks) n es h.form
@@ -155,15 +154,13 @@ module _ (bs : List ℕ) (c u : ℕ) (r : Result ℕ Refusal) (q : r ≡ answer 
 pub told_is_answer : (bs : List ℕ) → told (pos 0) (read bs) ≡ answer (read bs) 1056 32
 told_is_answer bs = by (read bs) refl
   where
-    room : (m : ℕ) → m ≤ 32 → HasRoom m 1056 32
-    room m l = (omega (arith, mul-le-mul_right (m + 1) l), l)
-
     by : (a : Result (List Entry) Refusal) → read bs ≡ a → told (pos 0) a ≡ answer a 1056 32
     by (Err x) f = refl
     by (Ok es) f =
         let h = accepted_holds bs es f in
         let e : size es ≡ h.0 = ap size h.2 ∙ size_is h.0 h.1 h.3.form in
-        sym (rw (room_from (size es) 1056 32 (room (size es) (omega (arith, e, h.3.form.few)))) refl)
+        let l : size es ≤ 32 = omega (arith, e, h.3.form.few) in
+        sym (rw (room_from (size es) 1056 32 (room_for (size es) l, l)) refl)
 
 pub tells_size : (bs : List ℕ) (r : Result ℕ Refusal) → r ≡ told (pos 0) (read bs) → TellsSize bs r
 tells_size bs r q n =

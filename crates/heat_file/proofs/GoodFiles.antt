@@ -1,12 +1,12 @@
 -- What is known of the lines of a file once they are checked.
-use Rattle.std.proofs.Common.{◌≡◌, ℕ, List, [], ◌∷◌, ℤ, pos, nat_abs, Some, None, Option, Ok, Err, Result, sym, refl, ap, ◌∙◌}
+use Rattle.std.proofs.Common.{◌≡◌, ℕ, List, [], ◌∷◌, pos, nat_abs, Some, None, Option, Ok, sym, refl, ap, ◌∙◌}
 use denote.Ref.{Bor}
 use Rattle.std.specs.Option.{ok_or, option_map}
 use Rattle.balance.specs.declared.refusal.Refusal.{Refusal}
 use Rattle.heat_file.specs.declared.line.Entry.{Entry}
 use Rattle.heat_file.specs.declared.line.Entry.TheVariants.{Size, Coefficient, RightSide, Weight}
 use Rattle.heat_file.specs.Cuts.{cut}
-use Rattle.heat_file.specs.Checks.{key, check, size_of, told}
+use Rattle.heat_file.specs.Checks.{key, check, size_of}
 use Rattle.heat_file.specs.Files.{located, read}
 use Rattle.heat_file.specs.Forms.{WellFormed, Increasing}
 use Rattle.heat_file.specs.Filled.{size}
@@ -22,10 +22,6 @@ located_some o r x bs q e = ap (option_map (λ (d : ℕ × Bor (List ℕ)). (d.0
 
 pub read_some : (bs : List ℕ) (p : ℕ) (d : List ℕ) → Some (p, d) ≡ located bs → read bs ≡ check p (cut 10 d)
 read_some bs p d q = rw (← q) refl
-
-pub told_err : (n : ℤ) (a : Result (List Entry) Refusal) (r : Refusal) → Err r ≡ told n a → a ≡ Err r
-told_err n (Ok es) r q = cc
-told_err n (Err e) r q = let z : r ≡ e = cc in ap (λ e. Err e) (sym z)
 
 -- no size line follows the first
 size_stays : (n : ℕ) (d : Entry) (es : List Entry) → Increasing (key d) es → size_of (pos n) es ≡ pos n

@@ -5,11 +5,11 @@ pub mod Lines
 pub mod Shapes
 pub mod Filling
 pub mod Checks
-pub mod Walking
 pub mod Trailers
 pub mod Checking
 pub mod Frames
 pub mod GoodFiles
+pub mod Walking
 pub mod Placing
 pub mod Putting
 pub mod FileLaws

@@ -12,6 +12,10 @@ use Rattle.heat_file.specs.Checks.{inside}
 use Rattle.heat_file.specs.Filled.{index, put_cells, put_weights, cleared, cells, certificate}
 use Rattle.heat_file.specs.Laws.{range_given, weight_given}
 
+-- the cells of at most 32 nodes
+pub room_for : (n : ℕ) → n ≤ 32 → n * (n + 1) ≤ 1056
+room_for n l = omega (arith, mul-le-mul_right (n + 1) l)
+
 pub node_in : (n : ℕ) (z : ℤ) → contains (range (pos 1) (pos n)) z ≡ true → (1 ≤ nat_abs z) × (nat_abs z ≤ n)
 node_in n (pos m) h = by (leb 1 m) refl h
   where

@@ -1,6 +1,5 @@
-ghost use Rattle.std.specs.Prelude.{◌≡◌, ◌+◌, ◌≤◌, true, length, pos, IfOk};
-ghost use Rattle.heat_file.specs.Cuts.{cut, closed};
-ghost use Rattle.heat_file.specs.Checks.{key, before, is_size, sized, inside, ordered, size_after, entry_check, Few, check, told};
+ghost use Rattle.std.specs.Prelude.{◌≡◌, IfOk};
+ghost use Rattle.heat_file.specs.Checks.{key, before, is_size, sized, inside, ordered, size_after, entry_check, Few};
 
 use super::line::Entry;
 use balance::range::Range;
@@ -58,25 +57,6 @@ fn is_before(first: Key, second: Key) -> bool
     ensures { result ≡ before first second }
 {
     first < second
-}
-
-// The size that whole data lines give, or the refusal of the first bad one. They begin at a byte place of the file.
-pub(crate) fn check_lines(text: &[u8], from: usize) -> Result<usize, Refusal>
-    requires are_whole_lines { closed 10 text.now ≡ true }
-    requires are_in_a_file { from + length text.now ≤ 65535 }
-    ensures { result ≡ told (pos 0) (check from (cut 10 text.now)) }
-{
-    let [lines @ .., b'\n'] = text else {
-        return Err(Refusal::Shape { place: from });
-    };
-    let mut standing = Standing::START;
-    let mut place = from;
-    for line in lines.split(|byte| *byte == b'\n') {
-        let entry = Entry::parse(line).ok_or(Refusal::Shape { place })?;
-        standing = standing.check(entry, place)?;
-        place += line.len() + 1;
-    }
-    Ok(standing.size as usize)
 }
 
 impl Entry {

@@ -5,7 +5,7 @@ ghost use Rattle.heat_file.specs.Files.{read};
 ghost use Rattle.heat_file.specs.Laws.{AcceptsFiles, TellsSize, WantsRoom, WantsFrame, RefusesFirstBad, OneReading, CellsHold, WeightsHold, KeepsRest};
 ghost use Rattle.heat_file.specs.Filled.{index, put_cells, put_weights, answer, cells_after, certificate_after, Puts};
 
-use super::check::{Standing, check_lines};
+use super::check::Standing;
 use super::line::Entry;
 use super::trailer::data_lines;
 use balance::range::Range;
@@ -55,8 +55,7 @@ pub fn size_of_file(file: &[u8]) -> Result<usize, Refusal>
     ensures wants_a_trailer_that_fits { WantsFrame file.now result }
     ensures refuses_at_the_first_bad_line { RefusesFirstBad file.now result }
 {
-    let (place, lines) = data_lines(file).ok_or(Refusal::File)?;
-    check_lines(lines, place)
+    read_entries(file, &mut [Range::ZERO; CELLS], &mut [1; NODES])
 }
 
 // Puts what a file says into lists with room for any file, and answers its size. Of a refused file they hold what stood before the fault.

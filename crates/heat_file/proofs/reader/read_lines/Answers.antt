@@ -1,14 +1,15 @@
-use Rattle.std.proofs.Common.{◌≡◌, ◌-◌, List, ℕ, [], ◌∷◌, length, take, pos, nat_abs, Some, Err, ap, ◌∙◌, subst, arith, w64, to_z, of_z, rules, tests}
+use Rattle.std.proofs.Common.{◌≡◌, ◌-◌, List, ℕ, [], ◌∷◌, length, take, nat_abs, Some, Err, ap, ◌∙◌, subst, arith, w64, to_z, of_z, rules, tests}
 use Rattle.std.specs.Slice.Iter.{split_rest, split_done}
 use Rattle.std.proofs.lemmas.Grind.{common_steps}
 use Rattle.balance.specs.declared.refusal.Refusal.TheVariants.{Shape}
 use Rattle.heat_file.specs.Cuts.{cut}
 use Rattle.heat_file.specs.Checks.{check}
 use Rattle.heat_file.specs.Filled.{put_cells}
-use Rattle.heat_file.proofs.GoodFiles.{told_err}
+use Rattle.heat_file.proofs.Checks.{size_few, inside_after}
+use Rattle.heat_file.proofs.Cutting.{closed_last, but_last}
 use Rattle.heat_file.proofs.Pieces.{pieces, first_pieces, next_piece, no_piece}
-use Rattle.heat_file.proofs.Walking.{closed_last, but_last, walk_shape, walk_refused}
-use Rattle.heat_file.proofs.Putting.{Reading, reading_start, reading_on, reading_done, inside_after, size_room}
+use Rattle.heat_file.proofs.Placing.{room_for}
+use Rattle.heat_file.proofs.Walking.{Reading, reading_start, reading_shape, reading_refused, reading_on, reading_done}
 use Rattle.heat_file.proofs.reader.read_lines.Goals as goal
 
 pub returns-in_default-2 : goal.returns-in_default-2
@@ -24,14 +25,14 @@ pub returns-in_err-entry : goal.returns-in_err-entry
 returns-in_err-entry c =
     let p = next_piece _ 10 c.loop-line.line-iterator c.next.new.self (λ x r q k. search (rules, tests)) (Some c.in-Some.line) c.in-Some.ensures.steps in
     let r = subst (λ (ls : List (List ℕ)). Reading c.args.text.now c.args.from c.args.cells.now c.args.certificate.now c.loop-line.standing c.loop-line.place ls c.loop-line.cells c.loop-line.certificate) p c.loop-line.invariant in
-    let h : check c.args.from (cut 10 c.args.text.now) ≡ Err (Shape c.loop-line.place) = told_err (pos 0) _ _ (walk_shape c.args.text.now c.args.from c.loop-line.standing c.loop-line.place c.in-Some.line.now (pieces 10 c.next.new.self) r.walked (grind (arith, common_steps))) in
+    let h : check c.args.from (cut 10 c.args.text.now) ≡ Err (Shape c.loop-line.place) = reading_shape r (grind (arith, common_steps)) in
     grind (arith, common_steps)
 
 pub returns-in_err-standing : goal.returns-in_err-standing
 returns-in_err-standing c =
     let p = next_piece _ 10 c.loop-line.line-iterator c.next.new.self (λ x r q k. search (rules, tests)) (Some c.in-Some.line) c.in-Some.ensures.steps in
     let r = subst (λ (ls : List (List ℕ)). Reading c.args.text.now c.args.from c.args.cells.now c.args.certificate.now c.loop-line.standing c.loop-line.place ls c.loop-line.cells c.loop-line.certificate) p c.loop-line.invariant in
-    let h : check c.args.from (cut 10 c.args.text.now) ≡ Err c.in_err-standing.field-0.0 = told_err (pos 0) _ _ (walk_refused c.args.text.now c.args.from c.loop-line.standing c.loop-line.place c.in-Some.line.now (pieces 10 c.next.new.self) r.walked c.in_ok-entry.entry c.in_err-standing.field-0.0 (grind (arith, common_steps)) (grind (arith, common_steps))) in
+    let h : check c.args.from (cut 10 c.args.text.now) ≡ Err c.in_err-standing.field-0.0 = reading_refused r c.in_ok-entry.entry c.in_err-standing.field-0.0 (grind (arith, common_steps)) (grind (arith, common_steps)) in
     grind (arith, common_steps)
 
 pub put-requires-clause-has_its_nodes : goal.put-requires-clause-has_its_nodes
@@ -44,7 +45,7 @@ pub put-requires-clause-has_cells : goal.put-requires-clause-has_cells
 put-requires-clause-has_cells c =
     let t = c.in_ok-standing.standing in
     let e : to_z w64 (of_z w64 t.size) ≡ t.size = search rules in
-    rw e (omega (arith, size_room t.size (grind (arith, common_steps)), c.requires.has_cells, c.loop-line.auto.cells))
+    rw e (omega (arith, room_for (nat_abs t.size) (size_few t.size (grind (arith, common_steps))).1, c.requires.has_cells, c.loop-line.auto.cells))
 
 pub loop-line-preserved : goal.loop-line-preserved
 loop-line-preserved c =
@@ -52,8 +53,7 @@ loop-line-preserved c =
     let e : to_z w64 (of_z w64 t.size) ≡ t.size = search rules in
     let p = next_piece _ 10 c.loop-line.line-iterator c.next.new.self (λ x r q k. search (rules, tests)) (Some c.in-Some.line) c.in-Some.ensures.steps in
     let r = subst (λ (ls : List (List ℕ)). Reading c.args.text.now c.args.from c.args.cells.now c.args.certificate.now c.loop-line.standing c.loop-line.place ls c.loop-line.cells c.loop-line.certificate) p c.loop-line.invariant in
-    reading_on c.args.text.now c.args.from c.args.cells.now c.args.certificate.now c.loop-line.standing c.loop-line.place c.in-Some.line.now (pieces 10 c.next.new.self) c.loop-line.cells c.loop-line.certificate r
-    c.in_ok-entry.entry t c.put.new.cells c.put.new.certificate (grind (arith, common_steps)) (grind (arith, common_steps)) (grind (arith, common_steps)) (c.put.ensures.puts_cells ∙ ap (λ n. put_cells (nat_abs n) (c.in_ok-entry.entry ∷ []) c.loop-line.cells) e) c.put.ensures.puts_weights
+    reading_on r c.in_ok-entry.entry t c.put.new.cells c.put.new.certificate (grind (arith, common_steps)) (grind (arith, common_steps)) (grind (arith, common_steps)) (c.put.ensures.puts_cells ∙ ap (λ n. put_cells (nat_abs n) (c.in_ok-entry.entry ∷ []) c.loop-line.cells) e) c.put.ensures.puts_weights
 
 pub returns : goal.returns
 returns c =
@@ -61,4 +61,4 @@ returns c =
     let e : to_z w64 (of_z w64 n) ≡ n = search rules in
     let p = no_piece 10 c.loop-line.line-iterator c.in-None.ensures.steps.0 in
     let r = subst (λ (ls : List (List ℕ)). Reading c.args.text.now c.args.from c.args.cells.now c.args.certificate.now c.loop-line.standing c.loop-line.place ls c.loop-line.cells c.loop-line.certificate) p c.loop-line.invariant in
-    rw e (reading_done c.args.text.now c.args.from c.args.cells.now c.args.certificate.now c.loop-line.standing c.loop-line.place c.loop-line.cells c.loop-line.certificate r)
+    rw e (reading_done r)

@@ -1,5 +1,5 @@
 use Rattle.heat_file.proofs.Pieces.{pieces}
-use Rattle.heat_file.proofs.Putting.{Reading}
+use Rattle.heat_file.proofs.Walking.{Reading}
 use Rattle.heat_file.proofs.reader.read_lines.Given as goal
 
 abbrev pub invariant-loop-line : goal.invariant-loop-line

@@ -1,6 +1,6 @@
 use Rattle.std.proofs.Common.{◌≡◌, eqb, ltb-true, ◌-◌, List, ℕ, [], ◌∷◌, ◌++◌, length, take, drop, ◌∙◌, subst, rules, tests, arith}
 use Rattle.heat_file.proofs.Trailers.{not_whole, rsplit_first}
-use Rattle.heat_file.proofs.Walking.{but_last}
+use Rattle.heat_file.proofs.Cutting.{but_last}
 use Rattle.heat_file.specs.Files.{Parts}
 use Rattle.heat_file.proofs.Pieces.{computes}
 use Rattle.heat_file.proofs.trailer.split_trailer.Goals as goal

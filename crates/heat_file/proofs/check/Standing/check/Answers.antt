@@ -1,6 +1,6 @@
 use Rattle.std.proofs.Common.{◌≡◌, ap, ◌∙◌, w64, to_z, of_z, rules}
 use Rattle.heat_file.specs.Checks.{size_after}
-use Rattle.heat_file.proofs.Walking.{few_after}
+use Rattle.heat_file.proofs.Checks.{few_after}
 use Rattle.heat_file.proofs.check.Standing.check.Goals as goal
 
 pub returns-else-not-has_ordered_ends-clause-few_nodes :
