@@ -52,6 +52,9 @@ refused : (n : ℤ) (cs : List Range) (us : List ℤ) (a : Result (List Entry) R
 refused n cs us (Ok es) r q = cc
 refused n cs us (Err e) r q = let z : r ≡ e = cc in ap (λ e. Err e) (sym z)
 
+pub lines_are : {text : List ℕ} {from : ℕ} {cs : List Range} {us : List ℤ} {s : Standing} {p : ℕ} {left rest : List (List ℕ)} {cs' : List Range} {us' : List ℤ} → left ≡ rest → Reading text from cs us s p left cs' us' → Reading text from cs us s p rest cs' us'
+lines_are {text = text} {from = from} {cs = cs} {us = us} {s = s} {p = p} {cs' = cs'} {us' = us'} e r = subst (λ left. Reading text from cs us s p left cs' us') e r
+
 -- ---- a line further
 
 module _ {text : List ℕ} {from : ℕ} {cs : List Range} {us : List ℤ} {s : Standing} {p : ℕ} {line : List ℕ} {left : List (List ℕ)} {cs' : List Range} {us' : List ℤ} (r : Reading text from cs us s p (line ∷ left) cs' us') where

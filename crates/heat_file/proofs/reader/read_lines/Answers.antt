@@ -1,4 +1,4 @@
-use Rattle.std.proofs.Common.{◌≡◌, ◌-◌, List, ℕ, [], ◌∷◌, length, take, nat_abs, Some, Err, ap, ◌∙◌, subst, arith, w64, to_z, of_z, rules, tests}
+use Rattle.std.proofs.Common.{◌≡◌, ◌-◌, [], ◌∷◌, length, take, nat_abs, Some, Err, ap, ◌∙◌, arith, w64, to_z, of_z, rules, tests}
 use Rattle.std.specs.Slice.Iter.{split_rest, split_done}
 use Rattle.std.proofs.lemmas.Grind.{common_steps}
 use Rattle.balance.specs.declared.refusal.Refusal.TheVariants.{Shape}
@@ -9,7 +9,7 @@ use Rattle.heat_file.proofs.Checks.{size_few, inside_after}
 use Rattle.heat_file.proofs.Cutting.{closed_last, but_last}
 use Rattle.heat_file.proofs.Pieces.{pieces, first_pieces, next_piece, no_piece}
 use Rattle.heat_file.proofs.Placing.{room_for}
-use Rattle.heat_file.proofs.Walking.{Reading, reading_start, reading_shape, reading_refused, reading_on, reading_done}
+use Rattle.heat_file.proofs.Walking.{lines_are, reading_start, reading_shape, reading_refused, reading_on, reading_done}
 use Rattle.heat_file.proofs.reader.read_lines.Goals as goal
 
 pub returns-in_default-2 : goal.returns-in_default-2
@@ -24,15 +24,13 @@ loop-line-init c =
 pub returns-in_err-entry : goal.returns-in_err-entry
 returns-in_err-entry c =
     let p = next_piece _ 10 c.loop-line.line-iterator c.next.new.self (λ x r q k. search (rules, tests)) (Some c.in-Some.line) c.in-Some.ensures.steps in
-    let r = subst (λ (ls : List (List ℕ)). Reading c.args.text.now c.args.from c.args.cells.now c.args.certificate.now c.loop-line.standing c.loop-line.place ls c.loop-line.cells c.loop-line.certificate) p c.loop-line.invariant in
-    let h : check c.args.from (cut 10 c.args.text.now) ≡ Err (Shape c.loop-line.place) = reading_shape r (grind (arith, common_steps)) in
+    let h : check c.args.from (cut 10 c.args.text.now) ≡ Err (Shape c.loop-line.place) = reading_shape (lines_are p c.loop-line.invariant) (grind (arith, common_steps)) in
     grind (arith, common_steps)
 
 pub returns-in_err-standing : goal.returns-in_err-standing
 returns-in_err-standing c =
     let p = next_piece _ 10 c.loop-line.line-iterator c.next.new.self (λ x r q k. search (rules, tests)) (Some c.in-Some.line) c.in-Some.ensures.steps in
-    let r = subst (λ (ls : List (List ℕ)). Reading c.args.text.now c.args.from c.args.cells.now c.args.certificate.now c.loop-line.standing c.loop-line.place ls c.loop-line.cells c.loop-line.certificate) p c.loop-line.invariant in
-    let h : check c.args.from (cut 10 c.args.text.now) ≡ Err c.in_err-standing.field-0.0 = reading_refused r c.in_ok-entry.entry c.in_err-standing.field-0.0 (grind (arith, common_steps)) (grind (arith, common_steps)) in
+    let h : check c.args.from (cut 10 c.args.text.now) ≡ Err c.in_err-standing.field-0.0 = reading_refused (lines_are p c.loop-line.invariant) c.in_ok-entry.entry c.in_err-standing.field-0.0 (grind (arith, common_steps)) (grind (arith, common_steps)) in
     grind (arith, common_steps)
 
 pub put-requires-clause-has_its_nodes : goal.put-requires-clause-has_its_nodes
@@ -52,13 +50,11 @@ loop-line-preserved c =
     let t = c.in_ok-standing.standing in
     let e : to_z w64 (of_z w64 t.size) ≡ t.size = search rules in
     let p = next_piece _ 10 c.loop-line.line-iterator c.next.new.self (λ x r q k. search (rules, tests)) (Some c.in-Some.line) c.in-Some.ensures.steps in
-    let r = subst (λ (ls : List (List ℕ)). Reading c.args.text.now c.args.from c.args.cells.now c.args.certificate.now c.loop-line.standing c.loop-line.place ls c.loop-line.cells c.loop-line.certificate) p c.loop-line.invariant in
-    reading_on r c.in_ok-entry.entry t c.put.new.cells c.put.new.certificate (grind (arith, common_steps)) (grind (arith, common_steps)) (grind (arith, common_steps)) (c.put.ensures.puts_cells ∙ ap (λ n. put_cells (nat_abs n) (c.in_ok-entry.entry ∷ []) c.loop-line.cells) e) c.put.ensures.puts_weights
+    reading_on (lines_are p c.loop-line.invariant) c.in_ok-entry.entry t c.put.new.cells c.put.new.certificate (grind (arith, common_steps)) (grind (arith, common_steps)) (grind (arith, common_steps)) (c.put.ensures.puts_cells ∙ ap (λ n. put_cells (nat_abs n) (c.in_ok-entry.entry ∷ []) c.loop-line.cells) e) c.put.ensures.puts_weights
 
 pub returns : goal.returns
 returns c =
     let n = c.loop-line.standing.size in
     let e : to_z w64 (of_z w64 n) ≡ n = search rules in
     let p = no_piece 10 c.loop-line.line-iterator c.in-None.ensures.steps.0 in
-    let r = subst (λ (ls : List (List ℕ)). Reading c.args.text.now c.args.from c.args.cells.now c.args.certificate.now c.loop-line.standing c.loop-line.place ls c.loop-line.cells c.loop-line.certificate) p c.loop-line.invariant in
-    rw e (reading_done r)
+    rw e (reading_done (lines_are p c.loop-line.invariant))
