@@ -159,6 +159,24 @@ pub trait Side {
 
 pub struct Library;
 
+/// Calls a C function on a drum and a box. A list crosses as a pointer and its length.
+macro_rules! on_box {
+    ($call:ident, $given:ident, $ranges:ident, $pointer:ident $(, $more:expr)*) => {
+        unsafe {
+            $call(
+                $given.size,
+                $given.cells.as_ptr(),
+                $given.cells.len(),
+                $given.certificate.as_ptr(),
+                $given.certificate.len(),
+                $ranges.$pointer(),
+                $ranges.len(),
+                $($more),*
+            )
+        }
+    };
+}
+
 // SAFETY (of each call): pointers and lengths are those of slices that live through the call and do not overlap where they are written.
 impl Side for Library {
     fn read_file(file: &[u8], cells: &mut [Range], certificate: &mut [i64]) -> Reply {
@@ -175,107 +193,31 @@ impl Side for Library {
     }
 
     fn open(given: Given, ranges: &mut [Range]) -> Reply {
-        unsafe {
-            heat_open(
-                given.size,
-                given.cells.as_ptr(),
-                given.cells.len(),
-                given.certificate.as_ptr(),
-                given.certificate.len(),
-                ranges.as_mut_ptr(),
-                ranges.len(),
-            )
-        }
+        on_box!(heat_open, given, ranges, as_mut_ptr)
     }
 
     fn row_step(given: Given, ranges: &mut [Range], node: usize) -> Reply {
-        unsafe {
-            heat_row_step(
-                given.size,
-                given.cells.as_ptr(),
-                given.cells.len(),
-                given.certificate.as_ptr(),
-                given.certificate.len(),
-                ranges.as_mut_ptr(),
-                ranges.len(),
-                node,
-            )
-        }
+        on_box!(heat_row_step, given, ranges, as_mut_ptr, node)
     }
 
     fn round(given: Given, ranges: &mut [Range]) -> Reply {
-        unsafe {
-            heat_round(
-                given.size,
-                given.cells.as_ptr(),
-                given.cells.len(),
-                given.certificate.as_ptr(),
-                given.certificate.len(),
-                ranges.as_mut_ptr(),
-                ranges.len(),
-            )
-        }
+        on_box!(heat_round, given, ranges, as_mut_ptr)
     }
 
     fn settle(given: Given, ranges: &mut [Range]) -> Reply {
-        unsafe {
-            heat_settle(
-                given.size,
-                given.cells.as_ptr(),
-                given.cells.len(),
-                given.certificate.as_ptr(),
-                given.certificate.len(),
-                ranges.as_mut_ptr(),
-                ranges.len(),
-            )
-        }
+        on_box!(heat_settle, given, ranges, as_mut_ptr)
     }
 
     fn reading(given: Given, ranges: &mut [Range], node: usize, range: Range) -> Reply {
-        unsafe {
-            heat_reading(
-                given.size,
-                given.cells.as_ptr(),
-                given.cells.len(),
-                given.certificate.as_ptr(),
-                given.certificate.len(),
-                ranges.as_mut_ptr(),
-                ranges.len(),
-                node,
-                range.lower,
-                range.upper,
-            )
-        }
+        on_box!(heat_reading, given, ranges, as_mut_ptr, node, range.lower, range.upper)
     }
 
     fn at_rest(given: Given, ranges: &[Range]) -> Reply {
-        unsafe {
-            heat_at_rest(
-                given.size,
-                given.cells.as_ptr(),
-                given.cells.len(),
-                given.certificate.as_ptr(),
-                given.certificate.len(),
-                ranges.as_ptr(),
-                ranges.len(),
-            )
-        }
+        on_box!(heat_at_rest, given, ranges, as_ptr)
     }
 
     fn ends(given: Given, ranges: &[Range], node: usize, ends: &mut Range) -> Reply {
-        unsafe {
-            heat_ends(
-                given.size,
-                given.cells.as_ptr(),
-                given.cells.len(),
-                given.certificate.as_ptr(),
-                given.certificate.len(),
-                ranges.as_ptr(),
-                ranges.len(),
-                node,
-                ends,
-            )
-        }
+        on_box!(heat_ends, given, ranges, as_ptr, node, ends)
     }
 
     fn possible(size: usize, cells: &[Range], numerators: &[i64], denominator: i64) -> Reply {
