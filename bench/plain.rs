@@ -1,12 +1,15 @@
 //! The library's work in plain Rust, against the same rules (`docs/MODEL.md`, `docs/HEAT_FILE.md`): what it is measured against.
 //! A drum is checked once, as it is opened; from then on its numbers are known to be small, and sums and products are plain.
-//! Products of ranges and the first box follow the formulas; with `--cfg shortcuts` they take the library's two shortcuts as well.
+//! It takes the library's three shortcuts; with `--cfg formulas` it follows the formulas as they read.
 
 use std::ops::{Add, Mul, Neg, Sub};
 
 pub const NODES: usize = 32;
 pub const CELLS: usize = NODES * (NODES + 1);
 const ROUNDS: usize = 64;
+
+/// Products go by signs, the first box divides only where an end grows, and a point goes through the cells once.
+const SHORTCUTS: bool = !cfg!(formulas);
 
 const COEFFICIENT_LIMIT: i64 = 1 << 20;
 const RIGHT_SIDE_LIMIT: i64 = 1 << 42;
@@ -133,13 +136,13 @@ impl Mul for Range {
     type Output = Range;
 
     fn mul(self, other: Range) -> Range {
-        if cfg!(shortcuts) && self.upper <= 0 {
+        if SHORTCUTS && self.upper <= 0 {
             return Range {
                 lower: scaled(other.upper, self.lower, self.upper),
                 upper: scaled(other.lower, self.upper, self.lower),
             };
         }
-        if cfg!(shortcuts) && 0 <= self.lower {
+        if SHORTCUTS && 0 <= self.lower {
             return Range {
                 lower: scaled(other.lower, self.lower, self.upper),
                 upper: scaled(other.upper, self.upper, self.lower),
@@ -244,16 +247,46 @@ impl<'a> Drum<'a> {
         Ok(())
     }
 
-    /// Whether some drum within the ranges has the temperatures numerators / denominator.
-    pub fn possible(&self, numerators: &[i64], denominator: i64) -> Result<bool, Refusal> {
-        self.check()?;
+    /// Refuses another count of numerators, a denominator that is not allowed, or the first numerator that is not.
+    fn check_point(&self, numerators: &[i64], denominator: i64) -> Result<(), Refusal> {
         if numerators.len() != self.size || !(1..=DENOMINATOR_LIMIT).contains(&denominator) {
             return Err(Refusal::Point(0));
         }
         let is_allowed = |n: &i64| (-NUMERATOR_LIMIT..=NUMERATOR_LIMIT).contains(n);
-        if let Some(i) = numerators.iter().position(|n| !is_allowed(n)) {
-            return Err(Refusal::Point(i + 1));
+        match numerators.iter().position(|n| !is_allowed(n)) {
+            Some(i) => Err(Refusal::Point(i + 1)),
+            None => Ok(()),
         }
+    }
+
+    /// Whether every row fits, or the first cell that is beyond its limits.
+    fn fits(&self, numerators: &[i64], denominator: i64) -> Result<bool, Refusal> {
+        let mut all = true;
+        for (row, cells) in (1..).zip(self.rows()) {
+            let mut sum = Range::ZERO;
+            for ((column, coefficient), n) in (1..).zip(cells.coefficients()).zip(numerators) {
+                if !coefficient.is_within(COEFFICIENT_LIMIT) {
+                    return Err(Refusal::Limit { row, column });
+                }
+                sum = sum + coefficient * *n;
+            }
+            if !cells.side.is_within(RIGHT_SIDE_LIMIT) {
+                let column = self.size + 1;
+                return Err(Refusal::Limit { row, column });
+            }
+            all &= sum.meets(cells.side * denominator);
+        }
+        Ok(all)
+    }
+
+    /// Whether some drum within the ranges has the temperatures numerators / denominator.
+    pub fn possible(&self, numerators: &[i64], denominator: i64) -> Result<bool, Refusal> {
+        let checked = self.check_point(numerators, denominator);
+        if SHORTCUTS && checked.is_ok() {
+            return self.fits(numerators, denominator);
+        }
+        self.check()?;
+        checked?;
         Ok(self.rows().all(|row| {
             let sum = row
                 .coefficients()
@@ -305,7 +338,7 @@ impl Weight {
 
 /// The largest quotient of a row, rounded up.
 fn largest_end(number: u64, weights: &[Weight]) -> u64 {
-    if cfg!(shortcuts) {
+    if SHORTCUTS {
         return weights.iter().fold(0, |end, w| w.larger(number, end));
     }
     let ends = weights.iter().map(|w| w.end(number));

@@ -1,5 +1,6 @@
 -- Laws of the whole numbers: products and sums, their sizes, and their order.
-use Rattle.std.proofs.Common.{◌≡◌, ℕ, suc, ◌+◌, ◌*◌, ◌<◌, ◌≤◌, ℤ, pos, negsuc, ◌+ℤ◌, ◌*ℤ◌, neg_ℤ, nat_abs, ◌≤ℤ◌, refl, ap, mul-le-mul_right, mul-le-mul, le_of_mul-le-mul_right, arith}
+use Rattle.std.proofs.Common.{◌≡◌, ℕ, zero, suc, ◌+◌, ◌*◌, ◌<◌, ◌≤◌, ℤ, pos, negsuc, ◌+ℤ◌, ◌*ℤ◌, neg_ℤ, nat_abs, ◌≤ℤ◌, refl, ap, subst₂, mul-le-mul_right, mul-le-mul, le_of_mul-le-mul_right, arith}
+use lib.IntN.{*ℤ_comm}
 use native.Mathlib.Nat.{eq_of_mul-eq-mul_right}
 use borrow.Author.Differences.{ints, up, down, same_in, at_most_in, le_out, product_is, sum_is_lem}
 use Rattle.std.specs.Int.{int_min, int_max}
@@ -46,6 +47,22 @@ le_times a b n h = omega (arith, ints, mul-le-mul_right n (le_out a b h))
 
 pub le_cancel : (a b : ℤ) (n : ℕ) → 0 < n → (a *ℤ pos n) ≤ℤ (b *ℤ pos n) → a ≤ℤ b
 le_cancel a b n p h = at_most_in a b (le_of_mul-le-mul_right {m = up a + down b} {n = up b + down a} {k = n} (omega (arith, ints)) p)
+
+-- by a factor of either sign
+pub grows : (a b d : ℤ) → pos 0 ≤ℤ d → a ≤ℤ b → (a *ℤ d) ≤ℤ (b *ℤ d)
+grows a b (pos n) s h = le_times a b n h
+grows a b (negsuc n) s h = absurd s.le
+
+pub falls : (a b d : ℤ) → d ≤ℤ pos 0 → a ≤ℤ b → (b *ℤ d) ≤ℤ (a *ℤ d)
+falls a b (pos zero) s h = omega (arith, ints)
+falls a b (pos (suc n)) s h = absurd (omega (arith, ints))
+falls a b (negsuc n) s h = omega (arith, ints, mul-le-mul_right (suc n) (le_out a b h))
+
+pub grows_left : (a b d : ℤ) → pos 0 ≤ℤ d → a ≤ℤ b → (d *ℤ a) ≤ℤ (d *ℤ b)
+grows_left a b d s h = subst₂ (λ x y. x ≤ℤ y) (*ℤ_comm a d) (*ℤ_comm b d) (grows a b d s h)
+
+pub falls_left : (a b d : ℤ) → d ≤ℤ pos 0 → a ≤ℤ b → (d *ℤ b) ≤ℤ (d *ℤ a)
+falls_left a b d s h = subst₂ (λ x y. x ≤ℤ y) (*ℤ_comm b d) (*ℤ_comm a d) (falls a b d s h)
 
 -- an order between two products, in naturals
 pub le_parts : (a b : ℤ) (m n : ℕ) → (a *ℤ pos m) ≤ℤ (b *ℤ pos n) → up a * m + down b * n ≤ up b * n + down a * m

@@ -1,11 +1,12 @@
 pub mod Integers
 pub mod Nodes
 pub mod Ranges
-pub mod Products
 pub mod FractionSums
 pub mod Picks
 pub mod PointRows
 pub mod Points
-pub mod RowSums
 pub mod Searches
 pub mod Entries
+pub mod PlaceLaws
+pub mod Refusals
+pub mod Layers

@@ -1,20 +1,19 @@
 -- The test of a point, and the sums of its rows.
-use Rattle.std.proofs.Common.{◌≡◌, ℕ, zero, suc, ◌-◌, ◌^◌, ◌<◌, ◌≤◌, Bool, true, false, T, eqb, nat_lt, get_or, slice_index_or, ◌↔◌, List, map, length, ℤ, pos, negsuc, neg_ℤ, nat_abs, Some, None, Ok, Option, sym, refl, ap, ◌∙◌, subst, arith}
+use Rattle.std.proofs.Common.{◌≡◌, ℕ, zero, suc, ◌+◌, ◌-◌, ◌*◌, ◌^◌, ◌<◌, ◌≤◌, Bool, true, false, T, ◌&&◌, eqb, ◌↔◌, List, length, ℤ, pos, negsuc, neg_ℤ, nat_abs, cond, Some, None, Ok, Option, Result, sym, refl, ap, ◌∙◌, subst, arith, w64, to_z, of_z}
 use borrow.Author.Differences.{ints}
-use Rattle.std.proofs.lemmas.Bool.{eq-eqb, ne_eqb, eqb-true}
-use Rattle.std.proofs.lemmas.List.{get_or-map, get_or_past, length-map}
+use Rattle.std.proofs.lemmas.Bool.{eq-eqb, eqb-true}
+use Rattle.std.proofs.lemmas.Int.{to_z-of_z}
 use Rattle.balance.specs.declared.range.Range.{Range}
 use Rattle.balance.specs.declared.refusal.Refusal.{Refusal}
 use Rattle.balance.specs.declared.refusal.Refusal.TheVariants.{Point as PointRefusal}
-use Rattle.balance.specs.Ranges.{only, Between, Fits64, times, total, meets}
-use Rattle.balance.specs.Meanings.{Place, told, refused, Meaning, IsNode, Told, Lawful, EveryPlaceAnswers, answer, coefficient_answer, right_side_answer, range_at}
-use Rattle.balance.specs.Places.{first, first_refusal, every}
-use Rattle.balance.specs.Rows.{AllBetween, at, found, terms, sum_of, row_sum}
-use Rattle.balance.specs.Points.{numerator, between, numerator_refusal, point_refusal, row, fits, possible_answer, point, Possible, TellsPossible}
+use Rattle.balance.specs.Ranges.{only, Ordered, Between, Fits64, plus, times, total}
+use Rattle.balance.specs.Meanings.{Meaning, IsNode, Lawful, EveryPlaceAnswers, coefficient_range, right_side_range}
+use Rattle.balance.specs.Places.{first, first_refusal, unless_refused, every}
+use Rattle.balance.specs.Points.{numerator, between, numerator_refusal, point_refusal, fits, point, Possible, TellsPossible}
 use Rattle.balance.proofs.Entries.{test_passed}
-use Rattle.balance.proofs.Searches.{none_of, coefficient_at, right_side_at}
-use Rattle.balance.proofs.Ranges.{times_between_bounds, narrow_fits}
-use Rattle.balance.proofs.RowSums.{row_sum_is}
+use Rattle.balance.proofs.Searches.{none_of, all_answer}
+use Rattle.balance.proofs.PlaceLaws.{range_within}
+use Rattle.balance.proofs.Ranges.{total_more, times_between_bounds, narrow_fits}
 use Rattle.balance.proofs.Points.{fits_exactly}
 
 -- ---- a point that is allowed
@@ -52,79 +51,94 @@ denominator_above (negsuc n) h = absurd (grind (arith, ints))
 
 -- ---- the sums of its rows
 
-none_is_some : {r : Range} → ◌≡◌ {A = Option Range} None (Some r) → ⊥
-none_is_some h = cc
-
-pub answer_found : (p : Place) → Told p → found (answer p) ≡ Some (range_at p)
-answer_found (told r) t = refl
-answer_found (refused a b c) t = absurd t
-
-sum_of_all : (f : ℕ → Option Range) (g : ℕ → Range) (n : ℕ) → ((j : ℕ) → 1 ≤ j → j ≤ n → f j ≡ Some (g j)) → sum_of f n ≡ Some (total g n)
-sum_of_all f g zero h = refl
-sum_of_all f g (suc n) h = rw (sum_of_all f g n (λ j a b. h j a (omega arith)), h (suc n) (omega arith) (omega arith))
+-- what a column adds to the sum of a row
+abbrev pub part : Meaning → (ℕ → ℤ) → ℕ → ℕ → Range
+part m p i j = times (coefficient_range m i j) (only (p j))
 
 -- no numerator goes beyond its limit
-pub numerators_narrow : (n : ℕ) (ps : List ℤ) (q : ℤ) → Allowed n ps q → AllBetween (2 ^ 37) (map only ps)
-numerators_narrow n ps q allows k = by (nat_lt k (length ps)) refl
+number_narrow : (n : ℕ) (ps : List ℤ) (q : ℤ) → Allowed n ps q → (j : ℕ) → 1 ≤ j → j ≤ n → Between (2 ^ 37) (only (numerator ps j))
+number_narrow n ps q allows j a b = one (numerator ps j) (allows.numerators j a b)
   where
     one : (p : ℤ) → numerator_between p ≡ true → Between (2 ^ 37) (only p)
     one p h = (grind (arith, ints), omega (arith, ints), grind (arith, ints))
 
-    by : (t : Bool) → nat_lt k (length ps) ≡ t → Between (2 ^ 37) (slice_index_or (map only ps) k (only (pos 0)))
-    by true e =
-        let l : k < length ps = grind (arith, e) in
-        let b : suc k - 1 ≡ k = omega arith in
-        let p : numerator_between (get_or ps k (pos 0)) ≡ true = subst (λ j. numerator_between (get_or ps j (pos 0)) ≡ true) b (allows.numerators (suc k) (omega arith) (omega (arith, allows.count))) in
-        subst (Between (2 ^ 37)) (sym (get_or-map only ps k (pos 0) (only (pos 0)) l)) (one _ p)
-    by false e =
-        let b : length ps ≤ k = grind (arith, e) in
-        let l : length (map only ps) ≤ k = omega (arith, length-map ps only) in
-        subst (Between (2 ^ 37)) (sym (get_or_past (map only ps) k (only (pos 0)) l)) (one (pos 0) refl)
+-- and the code holds it
+pub number_held : (n : ℕ) (ps : List ℤ) (q : ℤ) → Allowed n ps q → (j : ℕ) → 1 ≤ j → j ≤ n → to_z w64 (of_z w64 (numerator ps j)) ≡ numerator ps j
+number_held n ps q allows j a b = let h = number_narrow n ps q allows j a b in to_z-of_z w64 (numerator ps j) (omega (arith, ints))
 
-module _ (m : Meaning) (answers : EveryPlaceAnswers m) (ps : List ℤ) (q : ℤ) (allows : Allowed m.size ps q) (i : ℕ) (node : IsNode m i) where
-  term_there : (j : ℕ) → 1 ≤ j → j ≤ m.size → terms m (map only ps) i 0 j ≡ Some (times (range_at (m.coefficient i j)) (only (numerator ps j)))
-  term_there j a b =
-      let z : eqb j 0 ≡ false = ne_eqb j 0 (λ e. omega arith) in
-      let x : at (map only ps) j ≡ only (numerator ps j) = get_or-map only ps (j - 1) (pos 0) (only (pos 0)) (omega (arith, allows.count)) in
-      let f : found (coefficient_answer m i j) ≡ Some (range_at (m.coefficient i j)) = ap found (coefficient_at m i j node (a, b)) ∙ answer_found (m.coefficient i j) (answers.coefficients i j node (a, b)) in
-      rw (z, x, f)
+-- the next sum
+pub total_next : (f : ℕ → Range) (k n : ℕ) (r s t : Range) → 1 ≤ k → n ≡ k → r ≡ total f (k - 1) → s ≡ f k → t ≡ plus r s → t ≡ total f n
+total_next f k n r s t p q h e i =
+    let j : k ≡ k - 1 + 1 = omega arith in
+    total_more f (k - 1) r s t h (e ∙ ap f j) i ∙ ap (total f) (sym j ∙ sym q)
 
-  pub row_there : row_sum m (map only ps) i 0 ≡ Some (row m (numerator ps) i)
-  row_there =
-      let n : length (map only ps) ≡ m.size = length-map ps only ∙ allows.count in
-      row_sum_is m (map only ps) i 0 (Some (row m (numerator ps) i)) n (ap (sum_of (terms m (map only ps) i 0)) n ∙ sum_of_all (terms m (map only ps) i 0) _ m.size term_there)
+-- a row and the columns that are added up
+module _ (m : Meaning) (lawful : Lawful m) (ps : List ℤ) (q : ℤ) (allows : Allowed m.size ps q) (i : ℕ) (node : IsNode m i) where
+  abbrev parts : ℕ → Range
+  parts = part m (numerator ps) i
 
-  pub side_there : found (right_side_answer m i) ≡ Some (range_at (m.right_side i))
-  side_there = ap found (right_side_at m i node) ∙ answer_found (m.right_side i) (answers.right_sides i node)
+  coefficient_narrow : (j : ℕ) → IsNode m j → Between (2 ^ 20) (coefficient_range m i j)
+  coefficient_narrow j h = range_within (2 ^ 20) (m.coefficient i j) (lawful.coefficients i j node h)
 
-  pub sum_told : None ≡ row_sum m (map only ps) i 0 → ⊥
-  sum_told e = none_is_some (e ∙ row_there)
+  part_narrow : (j : ℕ) → IsNode m j → Between (2 ^ 57) (parts j)
+  part_narrow j h = times_between_bounds _ _ (2 ^ 20) (2 ^ 37) (coefficient_narrow j h) (number_narrow m.size ps q allows j h.0 h.1)
 
-  pub side_told : None ≡ found (right_side_answer m i) → ⊥
-  side_told e = none_is_some (e ∙ side_there)
+  sum_narrow : (k : ℕ) → k ≤ m.size → Between (k * 2 ^ 57) (total parts k)
+  sum_narrow zero h = (omega (arith, ints), omega (arith, ints), omega (arith, ints))
+  sum_narrow (suc k) h =
+      let v = sum_narrow k (omega arith) in
+      let b = part_narrow (suc k) (omega arith, omega arith) in
+      (omega (arith, ints), omega (arith, ints), omega (arith, ints))
 
-  -- the code's range for q
-  module _ (told : Range) (is : told ≡ only q) where
-    pub product_fits : (side : Range) → Between (2 ^ 42) side → Fits64 (times side told)
-    product_fits side b =
-        let d = denominator_above q allows.denominator in
-        narrow_fits (2 ^ 62) (times side told) (omega arith) (times_between_bounds side told (2 ^ 42) (2 ^ 20) b (subst (Between (2 ^ 20)) (sym is) (omega (arith, ints), omega (arith, ints), omega (arith, ints))))
+  -- column j, where the code has a for the coefficient and p for the numerator
+  module _ (j : ℕ) (h : IsNode m j) (a : Range) (p : ℤ) (is : a ≡ coefficient_range m i j) (held : p ≡ numerator ps j) where
+    pub factor_ordered : Ordered a
+    factor_ordered = subst Ordered (sym is) (coefficient_narrow j h).1
 
-    pub fits_is : (sum side scaled : Range) → Some sum ≡ row_sum m (map only ps) i 0 → Some side ≡ found (right_side_answer m i) → scaled ≡ times side told → meets sum scaled ≡ fits m (numerator ps) q i
-    fits_is sum side scaled e f p =
-        let s : sum ≡ row m (numerator ps) i = same_some (e ∙ row_there) in
-        let t : side ≡ range_at (m.right_side i) = same_some (f ∙ side_there) in
-        (λ k. meets (s k) ((p ∙ (λ l. times (t l) (is l))) k))
-      where
-        same_some : {a b : Range} → Some a ≡ Some b → a ≡ b
-        same_some h = cc
+    pub product_fits : Fits64 (times a (only p))
+    product_fits = subst Fits64 (sym (λ k. times (is k) (only (held k)))) (narrow_fits (2 ^ 57) (parts j) (omega arith) (part_narrow j h))
+
+  pub sum_fits : (j : ℕ) (r s : Range) → IsNode m j → r ≡ total parts (j - 1) → s ≡ parts j → Fits64 (plus r s)
+  sum_fits j r s h e k = narrow_fits (j * 2 ^ 57) (plus r s) (omega (arith, lawful.few)) (subst (Between (j * 2 ^ 57)) (sym (total_next parts j j r s (plus r s) h.0 refl e k refl)) (sum_narrow j h.1))
+
+-- the code holds the denominator
+pub denominator_held : (q : ℤ) → denominator_between q ≡ true → to_z w64 (of_z w64 q) ≡ q
+denominator_held q h = let d = denominator_above q h in to_z-of_z w64 q (omega (arith, ints))
+
+-- a right side, where the code has b for it and p for the denominator
+module _ (m : Meaning) (lawful : Lawful m) (q : ℤ) (over : denominator_between q ≡ true) (i : ℕ) (node : IsNode m i) (b : Range) (p : ℤ) (is : b ≡ right_side_range m i) (held : p ≡ q) where
+  side_narrow : Between (2 ^ 42) (right_side_range m i)
+  side_narrow = range_within (2 ^ 42) (m.right_side i) (lawful.right_sides i node)
+
+  pub side_ordered : Ordered b
+  side_ordered = subst Ordered (sym is) side_narrow.1
+
+  pub scaled_fits : Fits64 (times b (only p))
+  scaled_fits =
+      let d = denominator_above q over in
+      let n : Between (2 ^ 20) (only q) = (omega (arith, ints), omega (arith, ints), omega (arith, ints)) in
+      subst Fits64 (sym (λ k. times (is k) (only (held k)))) (narrow_fits (2 ^ 62) _ (omega arith) (times_between_bounds (right_side_range m i) (only q) (2 ^ 42) (2 ^ 20) side_narrow n))
+
+-- the next test
+pub every_next : (t : ℕ → Bool) (k n : ℕ) (b here c : Bool) → 1 ≤ k → n ≡ k → b ≡ every t (k - 1) → here ≡ t k → c ≡ (b && here) → c ≡ every t n
+every_next t k n b here c p q h e f =
+    let j : k ≡ suc (k - 1) = omega arith in
+    f ∙ (λ i. h i && e i) ∙ both (every t (k - 1)) (t k) ∙ (λ i. cond (every t (k - 1)) (t (j i)) false) ∙ ap (every t) (sym j ∙ sym q)
+  where
+    both : (x y : Bool) → (x && y) ≡ cond x y false
+    both true y = refl
+    both false y = refl
 
 -- ---- the answer
-
-pub answer_is : (m : Meaning) (ps : List ℤ) (q : ℤ) → first_refusal m ≡ None → point_refusal m.size ps q ≡ None → possible_answer m ps q ≡ Ok (every (fits m (numerator ps) q) m.size)
-answer_is m ps q h k = rw (h, k)
 
 pub answer_tells : (m : Meaning) → Lawful m → EveryPlaceAnswers m → (ps : List ℤ) (q : ℤ) → Allowed m.size ps q → TellsPossible m ps q (Ok (every (fits m (numerator ps) q) m.size))
 answer_tells m lawful answers ps q allows =
     let d = denominator_above q allows.denominator in
     (d.0, d.1, subst (λ z. T (every (fits m (numerator ps) z) m.size) ↔ Possible m (point ps (nat_abs q) d.0)) (sym d.1) (fits_exactly m lawful answers (point ps (nat_abs q) d.0)))
+
+pub tells_so : (m : Meaning) → Lawful m → (ps : List ℤ) (q : ℤ) → Allowed m.size ps q → (r : Result Bool Refusal) → r ≡ unless_refused (first_refusal m) (Ok (every (fits m (numerator ps) q) m.size)) → TellsPossible m ps q r
+tells_so m lawful ps q allows r e = by (first_refusal m) refl e
+  where
+    by : (o : Option Refusal) → first_refusal m ≡ o → r ≡ unless_refused o (Ok (every (fits m (numerator ps) q) m.size)) → TellsPossible m ps q r
+    by None f g = subst (TellsPossible m ps q) (sym g) (answer_tells m lawful (all_answer m f) ps q allows)
+    by (Some x) f g = subst (TellsPossible m ps q) (sym g) tt

@@ -6,11 +6,12 @@ use Rattle.std.specs.Int.{int_max}
 use Rattle.std.proofs.lemmas.Int.{clamps}
 use Rattle.balance.specs.declared.range.Range.{Range}
 use Rattle.balance.specs.Ranges.{only, Ordered, times, meets}
-use Rattle.balance.specs.Meanings.{Place, told, refused, Meaning, IsNode, Within, Told, Lawful, EveryPlaceAnswers, range_at}
-use Rattle.balance.specs.Members.{Fraction, Member, Point, PickedAt, component, sum, ◌∈◌, ◌≈◌, ◌⊗◌}
+use Rattle.balance.specs.Meanings.{Meaning, IsNode, Lawful, EveryPlaceAnswers, range_at}
+use Rattle.balance.specs.Members.{Fraction, Member, Point, component, sum, ◌∈◌, ◌≈◌, ◌⊗◌}
 use Rattle.balance.specs.Places.{every}
 use Rattle.balance.specs.Points.{row, fits, Possible}
 use Rattle.balance.proofs.Integers.{times_assoc, le_times, le_parts, le_cancel}
+use Rattle.balance.proofs.PlaceLaws.{picked_told, range_within, picked_in, in_picked}
 use Rattle.balance.proofs.FractionSums.{times_ordered, total_ordered, ◌·◌, sum_in, term_in}
 use Rattle.balance.proofs.Picks.{low_weight, high_weight, some_weight, weighted, value, pick, pick_in, row_is}
 
@@ -42,9 +43,12 @@ module _ (q : ℕ) (f g : Fraction) (r s : Range) (h : q · f ∈ r) (e : f ≈ 
   both_meet : meets r (times s (only (pos q))) ≡ true
   both_meet = meet r (times s (only (pos q))) (omega (arith, ints, clamps, lower_below)) (omega (arith, ints, clamps, upper_above))
 
-pub picked_in : (p : Place) (f : Fraction) → PickedAt p f → f ∈ range_at p
-picked_in (told r) f h = h
-picked_in (refused a b c) f h = absurd h
+-- where there is a member system, every place answers
+pub member_answers : (m : Meaning) → Member m → EveryPlaceAnswers m
+member_answers m s = record {
+  coefficients = λ i j h k. picked_told (m.coefficient i j) (s.coefficient i j) (s.coefficients_picked i j h k);
+  right_sides = λ i h. picked_told (m.right_side i) (s.right_side i) (s.right_sides_picked i h);
+}
 
 pub solution_fits : (m : Meaning) (x : Point) → Possible m x → (i : ℕ) → IsNode m i → fits m x.numerator (pos x.over) i ≡ true
 solution_fits m x (s, solves) i h =
@@ -56,14 +60,6 @@ solution_fits m x (s, solves) i h =
     terms j = s.coefficient i j ⊗ component x j
 
 -- ---- to a solution
-
-in_picked : (p : Place) (f : Fraction) → Told p → f ∈ range_at p → PickedAt p f
-in_picked (told r) f t h = h
-in_picked (refused a b c) f t h = t
-
-pub place_ordered : (limit : ℕ) (p : Place) → Within limit p → Ordered (range_at p)
-place_ordered limit (told r) h = h.1
-place_ordered limit (refused a b c) h = omega (arith, ints)
 
 -- of two ranges that meet, the larger lower end lies in both
 both : (r s : Range) → Ordered r → Ordered s → meets r s ≡ true → (let c = int_max r.lower s.lower in (r.lower ≤ℤ c) × (c ≤ℤ r.upper) × (s.lower ≤ℤ c) × (c ≤ℤ s.upper))
@@ -107,8 +103,8 @@ fits_solution m lawful answers x fit = (s, λ i h. row_is (α i) (β i) (some i)
     s = record {
       coefficient = λ i j. pick (α i) (β i) (some i) (A i j) (x.numerator j);
       right_side = λ i. value x (c i);
-      coefficients_picked = λ i j h k. in_picked (m.coefficient i j) _ (answers.coefficients i j h k) (pick_in (α i) (β i) (some i) (A i j) (x.numerator j) (place_ordered (2 ^ 20) (m.coefficient i j) (lawful.coefficients i j h k)));
-      right_sides_picked = λ i h. in_picked (m.right_side i) _ (answers.right_sides i h) (divided (B i) x.over (c i) (place_ordered (2 ^ 42) (m.right_side i) (lawful.right_sides i h)) (shared i h).2 (shared i h).3);
+      coefficients_picked = λ i j h k. in_picked (m.coefficient i j) _ (answers.coefficients i j h k) (pick_in (α i) (β i) (some i) (A i j) (x.numerator j) (range_within (2 ^ 20) (m.coefficient i j) (lawful.coefficients i j h k)).1);
+      right_sides_picked = λ i h. in_picked (m.right_side i) _ (answers.right_sides i h) (divided (B i) x.over (c i) (range_within (2 ^ 42) (m.right_side i) (lawful.right_sides i h)).1 (shared i h).2 (shared i h).3);
     }
 
 -- ---- a test at every node

@@ -1,12 +1,12 @@
 -- The arithmetic of ranges extends that of whole numbers, and stays within bounds.
-use Rattle.std.proofs.Common.{◌≡◌, ℕ, ◌*◌, ◌^◌, ◌≤◌, ℤ, ◌+ℤ◌, ◌-ℤ◌, ◌*ℤ◌, nat_abs, ◌≤ℤ◌, Option, Some, None, SomeIff, ap, ◌∙◌, subst, arith, w64, SFits, to_z, of_z}
+use Rattle.std.proofs.Common.{◌≡◌, ℕ, suc, ◌+◌, ◌*◌, ◌^◌, ◌≤◌, ℤ, pos, ◌+ℤ◌, ◌-ℤ◌, ◌*ℤ◌, nat_abs, ◌≤ℤ◌, Option, Some, None, SomeIff, sym, ap, ◌∙◌, subst, arith, w64, SFits, to_z, of_z}
 use lib.IntN.{*ℤ_comm}
 use borrow.Author.Differences.{ints}
 use Rattle.std.specs.Int.{int_min, int_max}
 use Rattle.std.proofs.lemmas.Int.{clamps, to_z-of_z}
 use Rattle.balance.specs.declared.range.Range.{Range}
-use Rattle.balance.specs.Ranges.{only, Ordered, Inside, ◌⊆◌, Between, Fits64, plus, minus, spanned, times, IntervalExtension}
-use Rattle.balance.proofs.Integers.{product_within, between_low, between_high}
+use Rattle.balance.specs.Ranges.{range, only, Ordered, Inside, ◌⊆◌, Between, Fits64, plus, minus, spanned, times, total, IntervalExtension}
+use Rattle.balance.proofs.Integers.{product_within, grows, falls, between_low, between_high}
 
 -- ---- sums and differences
 
@@ -21,6 +21,10 @@ minus_extends = record {
   holds_every_result = λ a b p q h k. (omega (arith, ints), omega (arith, ints));
   keeps_inclusion = λ a b c d o o' h k. omega (arith, ints);
 }
+
+-- a sum with one more term
+pub total_more : (f : ℕ → Range) (j : ℕ) (r s t : Range) → r ≡ total f j → s ≡ f (j + 1) → t ≡ plus r s → t ≡ total f (j + 1)
+total_more f j r s t h k e = let n : j + 1 ≡ suc j = omega arith in e ∙ (λ i. plus (h i) (k i)) ∙ (λ i. plus (total f j) (f (n i))) ∙ ap (total f) (sym n)
 
 -- ---- products
 
@@ -72,6 +76,24 @@ times_extends = record { holds_every_result = product_inside; keeps_inclusion = 
 -- the ends of a range times one number are the smaller and the larger product
 pub times_only : (r : Range) (p : ℤ) → ((times r (only p)).lower ≡ int_min (r.lower *ℤ p) (r.upper *ℤ p)) × ((times r (only p)).upper ≡ int_max (r.lower *ℤ p) (r.upper *ℤ p))
 times_only r p = (omega (arith, ints, clamps), omega (arith, ints, clamps))
+
+-- of a range in order those are its own ends, each times the number, and exchanged where the number is below 0
+module _ (r : Range) (p : ℤ) (o : Ordered r) where
+  pub times_only_above : pos 0 ≤ℤ p → times r (only p) ≡ range (r.lower *ℤ p) (r.upper *ℤ p)
+  times_only_above s =
+      let e = times_only r p in
+      let k = grows r.lower r.upper p s o in
+      let low : (times r (only p)).lower ≡ r.lower *ℤ p = omega (arith, ints, clamps) in
+      let high : (times r (only p)).upper ≡ r.upper *ℤ p = omega (arith, ints, clamps) in
+      λ i. range (low i) (high i)
+
+  pub times_only_below : p ≤ℤ pos 0 → times r (only p) ≡ range (r.upper *ℤ p) (r.lower *ℤ p)
+  times_only_below s =
+      let e = times_only r p in
+      let k = falls r.lower r.upper p s o in
+      let low : (times r (only p)).lower ≡ r.upper *ℤ p = omega (arith, ints, clamps) in
+      let high : (times r (only p)).upper ≡ r.lower *ℤ p = omega (arith, ints, clamps) in
+      λ i. range (low i) (high i)
 
 -- ---- bounds
 

@@ -2,9 +2,12 @@
 use Rattle.std.proofs.Common.{◌≡◌, ℕ, zero, suc, ◌+◌, ◌-◌, ◌<◌, ◌≤◌, Bool, true, false, cond, leb, ℤ, Some, None, Ok, Err, Option, Result, sym, refl, ap, ◌∙◌, subst, ⊎_elim, arith}
 use native.Mathlib.Decide.{ℕ_discrete}
 use Rattle.std.proofs.lemmas.Bool.Decides.{nat_tests}
+use Rattle.balance.specs.declared.range.Range.{Range}
 use Rattle.balance.specs.declared.refusal.Refusal.{Refusal}
-use Rattle.balance.specs.Meanings.{Place, told, refused, Meaning, IsNode, Told, EveryPlaceAnswers, answer, is_node, coefficient_answer, right_side_answer}
+use Rattle.balance.specs.Ranges.{range}
+use Rattle.balance.specs.Meanings.{Meaning, IsNode, Told, EveryPlaceAnswers, answer, coefficient_range, right_side_range, is_node, coefficient_answer, right_side_answer}
 use Rattle.balance.specs.Places.{or_else, first, unless_refused, refusal_at, row_refusal, first_refusal, place, FirstRefused, Searched}
+use Rattle.balance.proofs.PlaceLaws.{told_range, answered, not_answered, unrefused_told}
 
 -- ---- the first of a list of refusals
 
@@ -33,6 +36,9 @@ first_ends f e k n p q h t = let s : k ≡ k - 1 + 1 = omega arith in first_stop
 pub unrefused : {X : Type 0} (o : Option Refusal) (x y : X) → Ok x ≡ unless_refused o (Ok y) → (o ≡ None) × (x ≡ y)
 unrefused None x y h = (refl, cc)
 unrefused (Some e) x y h = cc
+
+pub refused_so : {X : Type 0} (o : Option Refusal) (e : Refusal) (r : Result X Refusal) → o ≡ Some e → Err e ≡ unless_refused o r
+refused_so o e r h = rw h
 
 pub refused_by : {X : Type 0} (o : Option Refusal) (e : Refusal) (y : X) → Err e ≡ unless_refused o (Ok y) → o ≡ Some e
 refused_by None e y h = cc
@@ -79,19 +85,7 @@ coefficient_at m i j (p, q) (r, s) = rw (is_a_node m.size i p q, is_a_node m.siz
 pub right_side_at : (m : Meaning) (i : ℕ) → IsNode m i → right_side_answer m i ≡ answer (m.right_side i)
 right_side_at m i (p, q) = rw (is_a_node m.size i p q)
 
-answered : (p : Place) (e : ℤ × ℤ) → Ok e ≡ answer p → refusal_at p ≡ None
-answered (told r) e h = refl
-answered (refused a b c) e h = cc
-
-not_answered : (p : Place) (e : Refusal) → Err e ≡ answer p → refusal_at p ≡ Some e
-not_answered (told r) e h = cc
-not_answered (refused a b c) e h = cc
-
-tells_here : (p : Place) → refusal_at p ≡ None → Told p
-tells_here (told r) h = tt
-tells_here (refused a b c) h = cc
-
--- a coefficient and a right side that answer, and that do not
+-- a coefficient and a right side that answer, and that do not, and the range made of the ends that are answered
 module _ (m : Meaning) (i : ℕ) (node : IsNode m i) where
   pub column_answers : (j : ℕ) (e : ℤ × ℤ) → IsNode m j → Ok e ≡ coefficient_answer m i j → refusal_at (m.coefficient i j) ≡ None
   column_answers j e h a = answered (m.coefficient i j) e (a ∙ coefficient_at m i j node h)
@@ -99,11 +93,17 @@ module _ (m : Meaning) (i : ℕ) (node : IsNode m i) where
   pub column_refuses : (j : ℕ) (e : Refusal) → IsNode m j → Err e ≡ coefficient_answer m i j → refusal_at (m.coefficient i j) ≡ Some e
   column_refuses j e h a = not_answered (m.coefficient i j) e (a ∙ coefficient_at m i j node h)
 
+  pub column_range : (j : ℕ) (e : ℤ × ℤ) (r : Range) → IsNode m j → Ok e ≡ coefficient_answer m i j → r ≡ range e.0 e.1 → r ≡ coefficient_range m i j
+  column_range j e r h a is = is ∙ told_range (m.coefficient i j) e (a ∙ coefficient_at m i j node h)
+
   pub side_answers : (e : ℤ × ℤ) → Ok e ≡ right_side_answer m i → refusal_at (m.right_side i) ≡ None
   side_answers e a = answered (m.right_side i) e (a ∙ right_side_at m i node)
 
   pub side_refuses : (e : Refusal) → Err e ≡ right_side_answer m i → refusal_at (m.right_side i) ≡ Some e
   side_refuses e a = not_answered (m.right_side i) e (a ∙ right_side_at m i node)
+
+  pub side_range : (e : ℤ × ℤ) (r : Range) → Ok e ≡ right_side_answer m i → r ≡ range e.0 e.1 → r ≡ right_side_range m i
+  side_range e r a is = is ∙ told_range (m.right_side i) e (a ∙ right_side_at m i node)
 
 -- ---- the search in terms of places
 
@@ -120,8 +120,8 @@ module _ (m : Meaning) where
 
   pub all_answer : first_refusal m ≡ None → EveryPlaceAnswers m
   all_answer h = record {
-    coefficients = λ i j (p, q) (r, s). tells_here (m.coefficient i j) (none_of (columns i) m.size (row_parts i (none_of (row_refusal m) m.size h i p q)).0 j r s);
-    right_sides = λ i (p, q). tells_here (m.right_side i) (row_parts i (none_of (row_refusal m) m.size h i p q)).1;
+    coefficients = λ i j (p, q) (r, s). unrefused_told (m.coefficient i j) (none_of (columns i) m.size (row_parts i (none_of (row_refusal m) m.size h i p q)).0 j r s);
+    right_sides = λ i (p, q). unrefused_told (m.right_side i) (row_parts i (none_of (row_refusal m) m.size h i p q)).1;
   }
 
   -- a place of a row without refusal answers
@@ -129,8 +129,8 @@ module _ (m : Meaning) where
   row_answers i j h p = by (leb j m.size) refl
     where
       by : (t : Bool) → leb j m.size ≡ t → Told (cond t (m.coefficient i j) (m.right_side i))
-      by true e = tells_here _ (none_of (columns i) m.size (row_parts i h).0 j p (grind (arith, nat_tests)))
-      by false e = tells_here _ (row_parts i h).1
+      by true e = unrefused_told _ (none_of (columns i) m.size (row_parts i h).0 j p (grind (arith, nat_tests)))
+      by false e = unrefused_told _ (row_parts i h).1
 
   coefficient_place : (i j : ℕ) → j ≤ m.size → place m i j ≡ m.coefficient i j
   coefficient_place i j h = grind (arith, nat_tests)
@@ -151,7 +151,7 @@ module _ (m : Meaning) where
             refuses = ap refusal_at (coefficient_place i c.index c.within) ∙ c.there;
             earlier_answer = λ k j h b. ⊎_elim
                 (λ l. row_answers k j (earlier k h.0.0 l) h.1.0)
-                (λ l. subst Told (sym (coefficient_place k j (omega (arith, c.within)))) (tells_here (m.coefficient k j) (subst (λ r. columns r j ≡ None) (sym l.0) (c.before j h.1.0 l.1))))
+                (λ l. subst Told (sym (coefficient_place k j (omega (arith, c.within)))) (unrefused_told (m.coefficient k j) (subst (λ r. columns r j ≡ None) (sym l.0) (c.before j h.1.0 l.1))))
                 b;
           }
       by None s t = record {
@@ -161,7 +161,7 @@ module _ (m : Meaning) where
         refuses = ap refusal_at (side_place i) ∙ t;
         earlier_answer = λ k j h b. ⊎_elim
             (λ l. row_answers k j (earlier k h.0.0 l) h.1.0)
-            (λ l. subst Told (sym (coefficient_place k j (omega arith))) (tells_here (m.coefficient k j) (subst (λ r. columns r j ≡ None) (sym l.0) (none_of (columns i) m.size s j h.1.0 (omega arith)))))
+            (λ l. subst Told (sym (coefficient_place k j (omega arith))) (unrefused_told (m.coefficient k j) (subst (λ r. columns r j ≡ None) (sym l.0) (none_of (columns i) m.size s j h.1.0 (omega arith)))))
             b;
       }
 

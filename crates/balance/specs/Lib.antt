@@ -5,7 +5,5 @@ pub mod Meanings
 pub mod Places
 pub mod Tables
 pub mod Members
-pub mod Products
-pub mod Rows
 pub mod Points
 pub mod TablesLemmas

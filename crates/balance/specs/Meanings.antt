@@ -92,3 +92,10 @@ placed ends part row column r = cond (within r ends) (told r) (refused part row 
 
 abbrev pub limited : ℕ → ℕ → ℕ → ℕ → Range → Place
 limited limit part row column r = placed (limits limit) part row column r
+
+-- ---- places of a layer
+
+-- what a layer makes of a range below; a refusal from below is passed up as it is
+abbrev pub place_above : (Range → Place) → Place → Place
+place_above make (told r) = make r
+place_above make (refused part row column) = refused part row column

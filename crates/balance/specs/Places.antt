@@ -1,5 +1,5 @@
 -- The first refused place of a system, row by row, the columns before the right side.
-use Rattle.std.specs.Prelude.{◌≡◌, ℕ, zero, suc, ◌+◌, ◌<◌, ◌≤◌, Bool, true, false, cond, ◌⊎◌, Some, None, Ok, Err, Option, Result, nat_le}
+use Rattle.std.specs.Prelude.{◌≡◌, ℕ, zero, suc, ◌+◌, ◌<◌, ◌≤◌, Bool, true, false, cond, List, [], ◌∷◌, ◌⊎◌, Some, None, Ok, Err, Option, Result, nat_le}
 use Rattle.balance.specs.declared.refusal.Refusal.{Refusal}
 use Rattle.balance.specs.declared.refusal.Refusal.TheVariants.{Limit}
 use Rattle.balance.specs.Meanings.{Place, told, refused, Meaning, IsNode, Told, EveryPlaceAnswers}
@@ -12,6 +12,11 @@ or_else (Some e) o = Some e
 abbrev pub first : (ℕ → Option Refusal) → ℕ → Option Refusal
 first f zero = None
 first f (suc k) = or_else (first f k) (f (suc k))
+
+-- the first refusal of a list
+abbrev pub first_of : List (Option Refusal) → Option Refusal
+first_of [] = None
+first_of (o ∷ os) = or_else o (first_of os)
 
 -- the test passes at 1 .. k
 abbrev pub every : (ℕ → Bool) → ℕ → Bool

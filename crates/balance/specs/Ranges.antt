@@ -1,5 +1,5 @@
 -- Ranges of whole numbers, both ends included, and the arithmetic on their ends.
-use Rattle.std.specs.Prelude.{ℕ, zero, suc, Bool, false, cond, List, ◌++◌, codes, ℤ, pos, ◌+ℤ◌, ◌-ℤ◌, ◌*ℤ◌, neg_ℤ, ◌≤ℤ◌, Ok, Err, Result, FitsSigned, int_le}
+use Rattle.std.specs.Prelude.{ℕ, zero, suc, Bool, false, cond, List, ◌++◌, codes, ℤ, pos, ◌+ℤ◌, ◌-ℤ◌, ◌*ℤ◌, neg_ℤ, ◌≤ℤ◌, Ok, Err, Result, FitsSigned, int_le, slice_index_or}
 use Rattle.std.specs.Fmt.{signed_decimal}
 use Rattle.std.specs.Int.{int_min, int_max, w64}
 use Rattle.balance.specs.declared.range.Range.{Range}
@@ -41,6 +41,10 @@ limits limit = range (neg_ℤ (pos limit)) (pos limit)
 -- in order, and no end beyond ±limit
 abbrev pub Between : ℕ → Range → Type 0
 Between limit r = (neg_ℤ (pos limit) ≤ℤ r.lower) × (r.lower ≤ℤ r.upper) × (r.upper ≤ℤ pos limit)
+
+-- so is each range of a list
+abbrev pub AllBetween : ℕ → List Range → Type 0
+AllBetween limit rs = (k : ℕ) → Between limit (slice_index_or rs k (only (pos 0)))
 
 -- both ends are numbers of 64 bits
 abbrev pub Fits64 : Range → Type 0

@@ -6,6 +6,5 @@ pub mod places;
 pub mod point;
 pub mod range;
 pub mod refusal;
-pub mod rows;
 pub mod system;
 pub mod table;

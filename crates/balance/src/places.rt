@@ -4,13 +4,12 @@ ghost use Rattle.balance.specs.Places.{first_refusal, unless_refused, Searched};
 use super::refusal::Refusal;
 use super::system::System;
 
-// Asks for every place, row by row, the columns before the right side. The first refusal met ends the search.
+/// Whether every place answers, or the refusal of the first one that does not: row by row, each row's columns and then its right side.
 pub fn every_place_answers<S: System>(system: &S) -> Result<(), Refusal>
     ensures answers { result ≡ unless_refused (first_refusal (S.meaning system.now)) (Ok tt) }
     ensures names_the_first_refused_place { Searched (S.meaning system.now) result }
 {
     let size = system.size();
-    // Nested loops left by a label, by the rule on the form of this search.
     'search: {
         for row in 1..=size {
             for column in 1..=size {

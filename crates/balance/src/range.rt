@@ -98,7 +98,7 @@ impl Range {
 }
 
 // From the smallest to the largest of four numbers.
-pub(crate) fn spanned(p: i64, q: i64, s: i64, t: i64) -> Range
+fn spanned(p: i64, q: i64, s: i64, t: i64) -> Range
     ensures { result ≡ spanned p q s t }
 {
     Range {

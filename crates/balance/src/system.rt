@@ -4,11 +4,11 @@ ghost use Rattle.balance.specs.Meanings.{Meaning, Among, Lawful, coefficient_ans
 use super::range::Range;
 use super::refusal::Refusal;
 
-// Row and column are two numbers in each question and each refusal, as the interface is asked. The two ends come as a pair, by the rule on the
-// form of a system; `Range::from` makes a range of it.
-// An interval linear system of 1 to 32 nodes. It is asked for its size and for the two ends at each place; a question changes nothing.
+/// An interval linear system of 1 to 32 nodes. It is asked for its size and for the two ends at each place; a question changes nothing.
+///
+/// Rows and columns are counted from 1. Ends come as a pair, of which `Range::from` makes a range.
 pub trait System {
-    // The part that the system names in a refusal 8 of its own.
+    // The part that the system names in a refusal 8 of its own: the library's are below 100, and a system of one's own takes 100 or more.
     const PART: usize;
 
     ghost meaning: { Self → Meaning };

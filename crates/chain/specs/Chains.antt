@@ -24,19 +24,19 @@ neighbours i j = (i - j) + (j - i) == 1
 abbrev pub coefficient : ℕ → Range → Range → ℕ → ℕ → Range
 coefficient n link outside i j = cond (i == j) (diagonal n link outside i) (if_there (neighbours i j) (minus (only (pos 0)) link))
 
--- part 5: a sum beyond the limits is refused at its row and column; the last node is heated
+-- part 100: a sum beyond the limits is refused at its row and column; the last node is heated
 abbrev pub chain : ℕ → Range → Range → Range → Meaning
 chain n link outside heat = record {
   size = n;
-  coefficient = λ i j. limited (2 ^ 20) 5 i j (coefficient n link outside i j);
-  right_side = λ i. limited (2 ^ 42) 5 i (n + 1) (if_there (i == n) heat);
+  coefficient = λ i j. limited (2 ^ 20) 100 i j (coefficient n link outside i j);
+  right_side = λ i. limited (2 ^ 42) 100 i (n + 1) (if_there (i == n) heat);
 }
 
 -- ---- which chains are made
 
 -- crossed ends before an end beyond the limits, by the number of the range
 abbrev pub ends_refusal : ℕ → Range → Range → Option Refusal
-ends_refusal number bounds r = cond (int_le r.lower r.upper) (cond (within r bounds) None (Some (Limit 5 number 0))) (Some (Crossed number))
+ends_refusal number bounds r = cond (int_le r.lower r.upper) (cond (within r bounds) None (Some (Limit 100 number 0))) (Some (Crossed number))
 
 abbrev pub conductances : Range
 conductances = range (pos 0) (pos (2 ^ 20))

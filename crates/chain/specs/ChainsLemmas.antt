@@ -22,7 +22,7 @@ neither (Some e) p h = cc
 
 in_order : (k : ℕ) (bounds r : Range) → ends_refusal k bounds r ≡ None → Ordered r
 in_order k bounds r h =
-    let order = test_passed (int_le r.lower r.upper) (cond (within r bounds) None (Some (Limit 5 k 0))) (Crossed k) h in
+    let order = test_passed (int_le r.lower r.upper) (cond (within r bounds) None (Some (Limit 100 k 0))) (Crossed k) h in
     grind (arith, ints)
 
 -- ---- so has each of its places
@@ -58,6 +58,6 @@ chain_lawful n link outside heat h =
     record {
       some = grind (arith, nat_tests);
       few = grind (arith, nat_tests);
-      coefficients = λ i j p q. limited_within (2 ^ 20) 5 i j _ (coefficient_ordered n link outside (in_order 1 conductances link first.0) (in_order 2 conductances outside second.0) i j);
-      right_sides = λ i p. limited_within (2 ^ 42) 5 i (n + 1) _ (there_ordered (i == n) heat (in_order 3 (limits (2 ^ 42)) heat second.1));
+      coefficients = λ i j p q. limited_within (2 ^ 20) 100 i j _ (coefficient_ordered n link outside (in_order 1 conductances link first.0) (in_order 2 conductances outside second.0) i j);
+      right_sides = λ i p. limited_within (2 ^ 42) 100 i (n + 1) _ (there_ordered (i == n) heat (in_order 3 (limits (2 ^ 42)) heat second.1));
     }

@@ -98,7 +98,7 @@ impl Chain {
 }
 
 impl System for Chain {
-    const PART: usize = 5;
+    const PART: usize = 100;
 
     ghost meaning = { λ c. chain c.size c.link c.outside c.heat };
 

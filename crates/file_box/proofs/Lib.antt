@@ -1,3 +1,4 @@
 pub mod Rounds
 pub mod Enclosures
 pub mod ReadFiles
+pub mod Printed

@@ -26,7 +26,7 @@ filled (Ok es) n cells certificate e c u = by (has_room (size es) 1056 32) e
     by false e = cc
 filled (Err r) n cells certificate e c u = cc
 
-enough : (n : ℕ) → n ≤ 32 → HasRoom n 1056 32
+pub enough : (n : ℕ) → n ≤ 32 → HasRoom n 1056 32
 enough n h = (mul-le-mul {n₁ = n} {m₁ = n + 1} {n₂ = 32} {m₂ = 33} h (omega arith), h)
 
 pub refused : (file : List ℕ) (e : Refusal) → Err e ≡ told (read file) → WantsRoom file 1056 32 (Err e) → refusal_report e ≡ read_report (read file)

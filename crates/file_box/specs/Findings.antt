@@ -1,5 +1,5 @@
 -- The box that is found for a system: rounds upon the first box until one changes nothing.
-use Rattle.std.specs.Prelude.{ℕ, zero, suc, cond, List, ℤ, Ok, Err, Result, Bool, ◌+◌, ◌*◌, ◌&&◌, ◌==◌, nat_le, length, map}
+use Rattle.std.specs.Prelude.{ℕ, zero, suc, cond, if◌then◌else◌, List, ℤ, Ok, Err, Result, Bool, ◌+◌, ◌*◌, ◌&&◌, ◌==◌, nat_le, length, map}
 use Rattle.balance.specs.declared.refusal.Refusal.{Refusal}
 use Rattle.balance.specs.declared.range.Range.{Range}
 use Rattle.balance.specs.declared.refusal.Refusal.TheVariants.{Size}
@@ -8,45 +8,25 @@ use Rattle.balance.specs.Meanings.{Meaning}
 use Rattle.balance.specs.Members.{Member, Point, Solves, SamePoint}
 use Rattle.balance.specs.Tables.{table}
 use Rattle.roast.specs.Runs.{Holds}
-use Rattle.roast.specs.declared.call.Answer.{Answer}
-use Rattle.roast.specs.declared.call.Answer.TheVariants.{Changed, Changes, Done, AtRest, Ends}
 use Rattle.roast.specs.Certificates.{opening}
-use Rattle.roast.specs.Narrowing.{Box, at_rest}
-use Rattle.roast.specs.Machine.{round, outcome}
+use Rattle.roast.specs.Narrowing.{Box, Contractor, narrowed}
+use Rattle.roast.specs.Machine.{round, at_rest}
 use Rattle.heat_file.specs.Reports.{box_report, refusal_report}
 
 -- a round that changed nothing ends the search, and so does one that is refused
-abbrev pub after_round : Result Answer Refusal → Box → Result Box Refusal → Result Box Refusal
-after_round (Ok (Changes n)) box more = cond (n == 0) (Ok box) more
-after_round (Ok (Changed c)) box more = Ok box
-after_round (Ok Done) box more = Ok box
-after_round (Ok (AtRest rests)) box more = Ok box
-after_round (Ok (Ends e)) box more = Ok box
-after_round (Err r) box more = Err r
+abbrev pub settle_on : Result ℕ Refusal → Box → Result Box Refusal → Result Box Refusal
+settle_on (Ok n) box more = if n == 0 then Ok box else more
+settle_on (Err e) box more = Err e
 
 -- the box after rounds until one changes nothing, so many at most, or the first refusal
-unfoldable pub settled : Meaning → Box → ℕ → Result Box Refusal
-settled m box zero = Ok box
-settled m box (suc k) = after_round (outcome m box round).answer (outcome m box round).box (settled m (outcome m box round).box k)
+unfoldable pub settled : Contractor → Box → ℕ → Result Box Refusal
+settled f box zero = Ok box
+settled f box (suc k) = settle_on (round f box).0 (round f box).1 (settled f (round f box).1 k)
 
--- a round that changed something is followed by those that are left, and any other by none
-abbrev pub unless_done : Result Answer Refusal → Box → Box → Box
-unless_done (Ok (Changes n)) box more = cond (n == 0) box more
-unless_done (Ok (Changed c)) box more = box
-unless_done (Ok Done) box more = box
-unless_done (Ok (AtRest rests)) box more = box
-unless_done (Ok (Ends e)) box more = box
-unless_done (Err r) box more = box
-
--- the box that these rounds leave: that of the rounds before, if one is refused
-unfoldable pub left_by_rounds : Meaning → Box → ℕ → Box
-left_by_rounds m box zero = box
-left_by_rounds m box (suc k) = unless_done (outcome m box round).answer (outcome m box round).box (left_by_rounds m (outcome m box round).box k)
-
--- from the first box
+-- from the first box, 64 rounds at most
 abbrev pub settled_first : Meaning → Result Box Refusal → Result Box Refusal
-settled_first m (Ok box) = settled m box 64
-settled_first m (Err r) = Err r
+settled_first m (Ok box) = settled (narrowed m) box 64
+settled_first m (Err e) = Err e
 
 -- the box that is found under a certificate, or the first refusal
 abbrev pub found : Meaning → List ℤ → Result Box Refusal
@@ -63,7 +43,7 @@ EnclosesIfFound m (Err r) = Unit {0}
 
 -- the report of a box, or of a refusal
 abbrev pub report : Meaning → Result Box Refusal → List ℕ
-report m (Ok box) = box_report box (at_rest m box)
+report m (Ok box) = box_report box (at_rest (narrowed m) box)
 report m (Err r) = refusal_report r
 
 -- the report on a system under a certificate

@@ -1,6 +1,6 @@
 ghost use Rattle.std.specs.Prelude.{◌≡◌};
 ghost use Rattle.heat_file.specs.Reports.{length_or_no_room, put_in_front};
-ghost use Rattle.file_box.specs.FileReports.{file_report};
+ghost use Rattle.file_box.specs.FileReports.{file_report, ReportsEnclosure};
 
 use super::table::report_table;
 use balance::range::Range;
@@ -13,11 +13,14 @@ const NODES: usize = 32;
 
 const CELLS: usize = 1_056;
 
-// Writes what a heat file is answered with: the report of the box that its table and certificate lead to, or the line of the first
-// refusal. Answers how long that is.
+/// Writes what a heat file is answered with: the report of the box that its table and certificate lead to, or the line of the first
+/// refusal. Answers how long that is.
+///
+/// Refused is a report for which there is no room (14); the buffer is then as it was.
 pub fn report_file(file: &[u8], out: &mut [u8]) -> Result<usize, Refusal>
     ensures answers { result ≡ length_or_no_room (file_report file.now) out.old }
     ensures writes_the_report_and_keeps_the_rest { out.new ≡ put_in_front (file_report file.now) out.old }
+    ensures a_box_that_is_printed_holds_every_solution { ReportsEnclosure file.now (file_report file.now) }
 {
     let mut cells = [Range::ZERO; CELLS];
     let mut certificate = [0; NODES];

@@ -1,5 +1,6 @@
 pub mod Taken
+pub mod Rests
+pub mod Leads
 pub mod Boxes
-pub mod Solutions
+pub mod Standing
 pub mod Calls
-pub mod Outcomes

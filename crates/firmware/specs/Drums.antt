@@ -1,5 +1,5 @@
--- A drum and a box in the caller's memory: what the box stands for, and what a call leaves of it.
-use Rattle.std.specs.Prelude.{◌≡◌, ℕ, suc, Bool, cond, List, [], ◌∷◌, length, map, ℤ, Ok, Err, Result, ◌==◌}
+-- A drum and a box in the caller's memory: what the box stands for, and what each call answers and leaves.
+use Rattle.std.specs.Prelude.{◌≡◌, ℕ, suc, Bool, if◌then◌else◌, List, [], ◌∷◌, length, map, ℤ, Ok, Err, Result, ◌==◌}
 use Rattle.balance.specs.declared.range.Range.{Range}
 use Rattle.balance.specs.declared.refusal.Refusal.{Refusal}
 use Rattle.balance.specs.declared.refusal.Refusal.TheVariants.{Size}
@@ -9,12 +9,11 @@ use Rattle.balance.specs.Members.{Member, Point, Solves, component, ◌∈◌}
 use Rattle.balance.specs.Points.{possible_answer}
 use Rattle.balance.specs.Ranges.{range}
 use Rattle.balance.specs.Tables.{table}
-use Rattle.roast.specs.declared.call.Answer.{Answer}
-use Rattle.roast.specs.declared.call.Answer.TheVariants.{Changed, Changes, Done, AtRest, Ends}
 use Rattle.roast.specs.Certificates.{opening}
-use Rattle.roast.specs.Narrowing.{Box, at_rest}
-use Rattle.roast.specs.Machine.{Ask, Outcome, tells, refuses, reading_outcome, outcome}
+use Rattle.roast.specs.Narrowing.{Box, Contractor, narrowed}
+use Rattle.roast.specs.Machine.{Transition, replacement, all_or_none, row_step, round, reading, at_rest, ends}
 use Rattle.roast.specs.Runs.{Holds}
+use Rattle.heat_file.specs.Checks.{and_then}
 use Rattle.heat_file.specs.Files.{read}
 use Rattle.heat_file.specs.Filled.{answer}
 use Rattle.file_box.specs.Findings.{is_counted, settled, Encloses}
@@ -26,82 +25,75 @@ drum n cells = table n (map range_ends cells)
 
 -- another size than 1 to 32, another number of cells and another number of ranges in a box are refused before all else
 abbrev pub if_counted : {X : Type 0} → ℕ → List Range → Result X Refusal → Result X Refusal
-if_counted n cells r = cond (is_counted n (length cells)) r (Err (Size 0))
+if_counted n cells r = if is_counted n (length cells) then r else Err (Size 0)
 
 abbrev pub if_long : {X : Type 0} → ℕ → Box → Result X Refusal → Result X Refusal
-if_long n box r = cond (length box == n) r (Err (Size 0))
+if_long n ranges r = if length ranges == n then r else Err (Size 0)
 
--- the first box of a drum, to be written over a box
+-- the first box of a drum, to be written over ranges
 abbrev pub first : ℕ → List Range → List ℤ → Box → Result Box Refusal
-first n cells us before = if_counted n cells (if_long n before (opening (drum n cells) us))
+first n cells us ranges = if_counted n cells (if_long n ranges (opening (drum n cells) us))
 
 -- ---- what the caller's ranges stand for
 
--- a refused reading ends the rest
-abbrev pub if_read : Result Answer Refusal → Result Box Refusal → Result Box Refusal
-if_read (Ok a) r = r
-if_read (Err e) r = Err e
-
--- ranges taken as readings of node i and of those behind it
+-- ranges taken as readings of node i and of those behind it; a refused one ends the rest
 unfoldable pub read_from : Box → ℕ → List Range → Result Box Refusal
 read_from box i [] = Ok box
-read_from box i (r ∷ rs) = if_read (reading_outcome box i r.lower r.upper).answer (read_from (reading_outcome box i r.lower r.upper).box (suc i) rs)
-
-abbrev pub read_into : Result Box Refusal → List Range → Result Box Refusal
-read_into (Ok box) rs = read_from box 1 rs
-read_into (Err e) rs = Err e
+read_from box i (r ∷ rs) =
+    let t = reading box i r.lower r.upper in
+    and_then t.0 (λ changed. read_from t.1 (suc i) rs)
 
 -- the first box with the caller's ranges taken as readings, node 1 first
 abbrev pub held : ℕ → List Range → List ℤ → Box → Result Box Refusal
-held n cells us ranges = read_into (first n cells us ranges) ranges
+held n cells us ranges = and_then (first n cells us ranges) (λ box. read_from box 1 ranges)
 
 -- ---- calls
 
--- what a call on that box answers and leaves, or its refusal
-abbrev pub called : Meaning → Ask → Box → Result Box Refusal → Outcome
-called m ask before (Ok box) = outcome m box ask
-called m ask before (Err r) = refuses before r
+-- a call on the box that the ranges stand for; one that is refused leaves the ranges
+abbrev pub called : {X : Type 0} → (Box → Transition X) → Box → Result Box Refusal → Transition X
+called call ranges (Ok box) = all_or_none ranges (call box).0 (call box).1
+called call ranges (Err e) = (Err e, ranges)
 
-abbrev pub call : ℕ → List Range → List ℤ → Box → Ask → Outcome
-call n cells us ranges ask = called (drum n cells) ask ranges (held n cells us ranges)
+-- rounds that are made answer whether the box is at rest then
+abbrev pub rested : Contractor → Box → Result Box Refusal → Transition Bool
+rested f before (Ok box) = (Ok (at_rest f box), box)
+rested f before (Err e) = (Err e, before)
 
--- an opening answers nothing
-abbrev pub opened : Box → Result Box Refusal → Outcome
-opened before (Ok box) = tells box Done
-opened before (Err r) = refuses before r
+-- rounds until one changes nothing, 64 at most
+abbrev pub settling : Contractor → Box → Transition Bool
+settling f box = rested f box (settled f box 64)
 
-abbrev pub opening_call : ℕ → List Range → List ℤ → Box → Outcome
-opening_call n cells us ranges = opened ranges (first n cells us ranges)
+-- what a call answers, and what it leaves of the caller's ranges
+module _ (n : ℕ) (cells : List Range) (us : List ℤ) (ranges : Box) where
+  abbrev pub on_held : {X : Type 0} → (Box → Transition X) → Transition X
+  on_held call = called call ranges (held n cells us ranges)
 
--- rounds that are made answer whether they ended at rest
-abbrev pub rested : Meaning → Box → Result Box Refusal → Outcome
-rested m before (Ok box) = tells box (AtRest (at_rest m box))
-rested m before (Err r) = refuses before r
+  abbrev pub opening_call : Transition (Unit {0})
+  opening_call = replacement ranges (first n cells us ranges)
 
--- 64 rounds at most
-abbrev pub settled_from : Meaning → Result Box Refusal → Result Box Refusal
-settled_from m (Ok box) = settled m box 64
-settled_from m (Err r) = Err r
+  abbrev pub row_step_call : ℕ → Transition Bool
+  row_step_call i = on_held (λ box. row_step (narrowed (drum n cells)) box i)
 
-abbrev pub settling : ℕ → List Range → List ℤ → Box → Outcome
-settling n cells us ranges = rested (drum n cells) ranges (settled_from (drum n cells) (held n cells us ranges))
+  abbrev pub round_call : Transition ℕ
+  round_call = on_held (round (narrowed (drum n cells)))
 
--- what is written where the caller's ranges were: nothing by a refused call
-abbrev pub unless_err : Result Answer Refusal → Box → Box → Box
-unless_err (Ok a) before after = after
-unless_err (Err r) before after = before
+  abbrev pub settling_call : Transition Bool
+  settling_call = on_held (settling (narrowed (drum n cells)))
 
-abbrev pub written : Box → Outcome → Box
-written before o = unless_err o.answer before o.box
+  abbrev pub reading_call : ℕ → ℤ → ℤ → Transition Bool
+  reading_call i lower upper = on_held (λ box. reading box i lower upper)
+
+  -- a question leaves the ranges
+  abbrev pub rest_call : Result Bool Refusal
+  rest_call = and_then (held n cells us ranges) (λ box. Ok (at_rest (narrowed (drum n cells)) box))
+
+  abbrev pub ends_call : ℕ → Result (ℤ × ℤ) Refusal
+  ends_call i = and_then (held n cells us ranges) (λ box. ends box i)
 
 -- a node's ends are written over a range, and nothing by a refused call
-abbrev pub ends_left : Range → Result Answer Refusal → Range
-ends_left before (Ok (Ends e)) = range e.0 e.1
-ends_left before (Ok (Changed c)) = before
-ends_left before (Ok (Changes n)) = before
-ends_left before (Ok Done) = before
-ends_left before (Ok (AtRest rests)) = before
-ends_left before (Err r) = before
+abbrev pub ends_left : Range → Result (ℤ × ℤ) Refusal → Range
+ends_left before (Ok ends) = range ends.0 ends.1
+ends_left before (Err e) = before
 
 -- a point against the drum
 abbrev pub possible_call : ℕ → List Range → List ℤ → ℤ → Result Bool Refusal
@@ -119,11 +111,14 @@ EnclosesIfAccepted r m now = r.refusal ≡ 0 → Encloses m now
 
 -- each solution of each member system that lies in the ranges that were given lies in those that are there now
 abbrev pub KeepsSolutions : Meaning → Box → Box → Type 0
-KeepsSolutions m given now = (s : Member m) (x : Point) → Solves m s x → Holds m given x → Holds m now x
+KeepsSolutions m given now =
+    (s : Member m) (x : Point) → Solves m s x → Holds m given x → Holds m now x
 
 -- each of them that lies in a reading too
 abbrev pub KeepsSolutionsWithin : Meaning → Box → ℕ → Range → Box → Type 0
-KeepsSolutionsWithin m given i r now = (s : Member m) (x : Point) → Solves m s x → Holds m given x → component x i ∈ r → Holds m now x
+KeepsSolutionsWithin m given i r now =
+    (s : Member m) (x : Point) → Solves m s x
+    → Holds m given x → component x i ∈ r → Holds m now x
 
 -- the ranges that an accepted call leaves stand for themselves: the next call goes on from just them
 abbrev pub GoesOn : ℕ → List Range → List ℤ → Reply → Box → Type 0

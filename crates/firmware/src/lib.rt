@@ -6,3 +6,4 @@ mod exports;
 mod held;
 mod narrowing;
 mod reply;
+mod settling;

@@ -1,14 +1,13 @@
 // Calls that narrow the box that the caller holds. Each writes the box that it leaves, and nothing if it is refused.
 ghost use Rattle.std.specs.Prelude.{◌≡◌};
-ghost use Rattle.roast.specs.Machine.{row_step_at, round, reading_at};
-ghost use Rattle.firmware.specs.Drums.{opening_call, call, settling, written};
-ghost use Rattle.firmware.specs.Replies.{in_numbers};
+ghost use Rattle.firmware.specs.Drums.{opening_call, row_step_call, round_call, settling_call, reading_call};
 
-use super::held::{held, opened, write_box};
-use super::reply::told;
+use super::held::{held, opened, read, write_box};
+use super::settling;
 use balance::range::Range;
 use balance::refusal::Refusal;
-use file_box::finding;
+use balance::table::Cells;
+use roast::roast::Roast;
 
 // Fills the ranges with the first box.
 pub(crate) fn open(
@@ -16,30 +15,30 @@ pub(crate) fn open(
     cells: &[Range],
     certificate: &[i64],
     ranges: &mut [Range],
-) -> Result<usize, Refusal>
-    ensures answers { result ≡ in_numbers (opening_call size cells.now certificate.now ranges.old).answer }
-    ensures writes_the_box_unless_refused { ranges.new ≡ written ranges.old (opening_call size cells.now certificate.now ranges.old) }
+) -> Result<(), Refusal>
+    ensures { (result, ranges.new) ≡ opening_call size cells.now certificate.now ranges.old }
 {
-    let roast = opened(size, cells, certificate, ranges)?;
-    write_box(&roast, ranges);
-    Ok(0)
+    let system = Cells::new(size, cells)?;
+    let mut roast = Roast::new(system);
+    let answer = opened(&mut roast, size, certificate, ranges);
+    write_box(answer, &roast, ranges)
 }
 
-// Narrows a node's range by its row: 1 if that changed it, and 0 if not.
+// Narrows a node's range by its row, and says whether that changed it.
 pub(crate) fn row_step(
     size: usize,
     cells: &[Range],
     certificate: &[i64],
     ranges: &mut [Range],
     node: usize,
-) -> Result<usize, Refusal>
-    ensures answers { result ≡ in_numbers (call size cells.now certificate.now ranges.old (row_step_at node)).answer }
-    ensures writes_the_box_unless_refused { ranges.new ≡ written ranges.old (call size cells.now certificate.now ranges.old (row_step_at node)) }
+) -> Result<bool, Refusal>
+    ensures { (result, ranges.new) ≡ row_step_call size cells.now certificate.now ranges.old node }
 {
-    let mut roast = held(size, cells, certificate, ranges)?;
-    let narrowed = roast.row_step(node)?;
-    write_box(&roast, ranges);
-    Ok(told(narrowed))
+    let system = Cells::new(size, cells)?;
+    let mut roast = Roast::new(system);
+    held(&mut roast, size, certificate, ranges)?;
+    let answer = roast.row_step(node);
+    write_box(answer, &roast, ranges)
 }
 
 // Row steps 1 to n, and how many of them changed a range; all or none.
@@ -49,46 +48,47 @@ pub(crate) fn round(
     certificate: &[i64],
     ranges: &mut [Range],
 ) -> Result<usize, Refusal>
-    ensures answers { result ≡ in_numbers (call size cells.now certificate.now ranges.old round).answer }
-    ensures writes_the_box_unless_refused { ranges.new ≡ written ranges.old (call size cells.now certificate.now ranges.old round) }
+    ensures { (result, ranges.new) ≡ round_call size cells.now certificate.now ranges.old }
 {
-    let mut roast = held(size, cells, certificate, ranges)?;
-    let changes = roast.round()?;
-    write_box(&roast, ranges);
-    Ok(changes)
+    let system = Cells::new(size, cells)?;
+    let mut roast = Roast::new(system);
+    held(&mut roast, size, certificate, ranges)?;
+    let answer = roast.round();
+    write_box(answer, &roast, ranges)
 }
 
-// Rounds until one changes nothing, 64 at most: 1 if the box is at rest then, and 0 if not.
+// Rounds until one changes nothing, 64 at most, and whether the box is at rest then.
 pub(crate) fn settle(
     size: usize,
     cells: &[Range],
     certificate: &[i64],
     ranges: &mut [Range],
-) -> Result<usize, Refusal>
-    ensures answers { result ≡ in_numbers (settling size cells.now certificate.now ranges.old).answer }
-    ensures writes_the_box_unless_refused { ranges.new ≡ written ranges.old (settling size cells.now certificate.now ranges.old) }
+) -> Result<bool, Refusal>
+    ensures { (result, ranges.new) ≡ settling_call size cells.now certificate.now ranges.old }
 {
-    let mut roast = held(size, cells, certificate, ranges)?;
-    finding::settle(&mut roast)?;
-    write_box(&roast, ranges);
-    Ok(told(roast.at_rest()))
+    let system = Cells::new(size, cells)?;
+    let mut roast = Roast::new(system);
+    held(&mut roast, size, certificate, ranges)?;
+    let answer = settling::settle(&mut roast);
+    write_box(answer, &roast, ranges)
 }
 
-// Narrows a node's range by a reading: 1 if that changed it, and 0 if not.
+// Narrows a node's range by a reading, and says whether that changed it.
 pub(crate) fn reading(
     size: usize,
     cells: &[Range],
     certificate: &[i64],
     ranges: &mut [Range],
     node: usize,
-    lower: i64,
-    upper: i64,
-) -> Result<usize, Refusal>
-    ensures answers { result ≡ in_numbers (call size cells.now certificate.now ranges.old (reading_at node lower upper)).answer }
-    ensures writes_the_box_unless_refused { ranges.new ≡ written ranges.old (call size cells.now certificate.now ranges.old (reading_at node lower upper)) }
+    reading: Range,
+) -> Result<bool, Refusal>
+    ensures { let us = certificate.now in
+        let call = reading_call size cells.now us ranges.old node reading.lower reading.upper in
+        (result, ranges.new) ≡ call }
 {
-    let mut roast = held(size, cells, certificate, ranges)?;
-    let changed = roast.reading(node, lower, upper)?;
-    write_box(&roast, ranges);
-    Ok(told(changed))
+    let system = Cells::new(size, cells)?;
+    let mut roast = Roast::new(system);
+    held(&mut roast, size, certificate, ranges)?;
+    let answer = read(&mut roast, node, reading);
+    write_box(answer, &roast, ranges)
 }

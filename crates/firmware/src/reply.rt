@@ -1,5 +1,5 @@
 ghost use Rattle.std.specs.Prelude.{◌≡◌};
-ghost use Rattle.firmware.specs.Replies.{yes_or_no, refused, reply};
+ghost use Rattle.firmware.specs.Replies.{yes_or_no, count, no_value, refused, reply};
 
 use balance::refusal::Refusal;
 
@@ -16,7 +16,7 @@ pub struct Reply {
 }
 
 // Fields of C: it has no enum that carries values.
-const ACCEPTED: Reply = Reply {
+pub(crate) const ACCEPTED: Reply = Reply {
     refusal: 0,
     place: 0,
     part: 0,
@@ -24,13 +24,6 @@ const ACCEPTED: Reply = Reply {
     column: 0,
     value: 0,
 };
-
-// 1 for yes, and 0 for no.
-pub(crate) fn told(yes: bool) -> usize
-    ensures { result ≡ yes_or_no yes }
-{
-    usize::from(yes)
-}
 
 impl From<Refusal> for Reply {
     ghost from_gives = { λ r a. a ≡ refused r };
@@ -54,12 +47,28 @@ impl From<Refusal> for Reply {
 }
 
 impl From<Result<usize, Refusal>> for Reply {
-    ghost from_gives = { λ r a. a ≡ reply r };
+    ghost from_gives = { λ r a. a ≡ reply count r };
 
     fn from(answer: Result<usize, Refusal>) -> Reply {
         match answer {
             Ok(value) => Reply { value, ..ACCEPTED },
             Err(refusal) => Reply::from(refusal),
         }
+    }
+}
+
+impl From<Result<bool, Refusal>> for Reply {
+    ghost from_gives = { λ r a. a ≡ reply yes_or_no r };
+
+    fn from(answer: Result<bool, Refusal>) -> Reply {
+        Reply::from(answer.map(usize::from))
+    }
+}
+
+impl From<Result<(), Refusal>> for Reply {
+    ghost from_gives = { λ r a. a ≡ reply no_value r };
+
+    fn from(answer: Result<(), Refusal>) -> Reply {
+        Reply::from(answer.map(|()| 0))
     }
 }

@@ -35,13 +35,13 @@ fn ranges_are_refused_in_order(rt: HostRuntime) {
         made(crossed, beyond, crossed),
         Err(Refusal::Crossed { place: 1 })
     );
-    assert_eq!(rt; made(beyond, crossed, ONE), Err(limit(5, 1, 0)));
-    assert_eq!(rt; made(range(-1, 1), ONE, ONE), Err(limit(5, 1, 0)));
+    assert_eq!(rt; made(beyond, crossed, ONE), Err(limit(100, 1, 0)));
+    assert_eq!(rt; made(range(-1, 1), ONE, ONE), Err(limit(100, 1, 0)));
     assert_eq!(rt; made(ONE, crossed, ONE), Err(Refusal::Crossed { place: 2 }));
-    assert_eq!(rt; made(ONE, beyond, crossed), Err(limit(5, 2, 0)));
+    assert_eq!(rt; made(ONE, beyond, crossed), Err(limit(100, 2, 0)));
     assert_eq!(rt; made(ONE, ONE, crossed), Err(Refusal::Crossed { place: 3 }));
-    assert_eq!(rt; made(ONE, ONE, range(0, HEAT + 1)), Err(limit(5, 3, 0)));
-    assert_eq!(rt; made(ONE, ONE, range(-HEAT - 1, 0)), Err(limit(5, 3, 0)));
+    assert_eq!(rt; made(ONE, ONE, range(0, HEAT + 1)), Err(limit(100, 3, 0)));
+    assert_eq!(rt; made(ONE, ONE, range(-HEAT - 1, 0)), Err(limit(100, 3, 0)));
 }
 
 #[test]
@@ -66,7 +66,7 @@ fn sums_keep_the_limit_of_a_coefficient(rt: HostRuntime) -> Result<(), Refusal> 
     assert_eq!(rt; most.coefficient(1, 1), Ok((0, CONDUCTANCE)));
     assert_eq!(rt; most.coefficient(2, 2), Ok((0, CONDUCTANCE)));
     let more = Chain::new(3, range(0, half), range(0, half + 1), ONE)?;
-    assert_eq!(rt; more.coefficient(1, 1), Err(limit(5, 1, 1)));
+    assert_eq!(rt; more.coefficient(1, 1), Err(limit(100, 1, 1)));
     assert_eq!(rt; more.coefficient(2, 2), Ok((0, CONDUCTANCE)));
     Ok(())
 }

@@ -1,17 +1,18 @@
 -- Boxes within boxes, and that a row step keeps them so.
-use Rattle.std.proofs.Common.{◌≡◌, ℕ, zero, suc, ◌-◌, ◌^◌, ◌≤◌, Bool, true, false, cond, eqb, [], ◌∷◌, length, get_or, set, pos, Some, None, sym, refl, ap, ◌∙◌, subst, ap₂, arith}
+use Rattle.std.proofs.Common.{◌≡◌, ℕ, zero, suc, ◌-◌, ◌^◌, ◌≤◌, Bool, true, false, cond, not, ◌&&◌, if◌then◌else◌, is_none, Option, eqb, [], ◌∷◌, length, get_or, set, pos, Some, None, sym, refl, ap, ◌∙◌, subst, ap₂, arith}
 use borrow.Author.Differences.{ints}
 use Rattle.std.proofs.lemmas.Int.{clamps}
+use Rattle.std.proofs.lemmas.Bool.{eqb-true}
 use Rattle.std.proofs.lemmas.List.{length-set, ext_get_or}
 use Rattle.balance.specs.declared.range.Range.{Range}
 use Rattle.balance.specs.Ranges.{range, only, Ordered, ◌⊆◌, times, total}
-use Rattle.balance.specs.Meanings.{Meaning, IsNode, Same, Within, Lawful, range_at, coefficient_range, right_side_range}
-use Rattle.balance.specs.Places.{every}
-use Rattle.balance.specs.Rows.{at}
-use Rattle.balance.proofs.Points.{place_ordered}
+use Rattle.balance.specs.Meanings.{Meaning, Among, IsNode, Same, Within, Lawful, range_at, coefficient_range, right_side_range}
+use Rattle.balance.specs.declared.refusal.Refusal.{Refusal}
+use Rattle.balance.specs.Places.{or_else, first, every, refusal_at, row_refusal}
+use Rattle.balance.proofs.PlaceLaws.{range_within}
 use Rattle.balance.proofs.Ranges.{plus_extends, minus_extends, times_extends}
 use Rattle.roast.specs.Rounding.{holds_zero, quotient, shared}
-use Rattle.roast.specs.Narrowing.{Box, is_told, row_answers, term, numerator, narrowed}
+use Rattle.roast.specs.Narrowing.{Box, at, HasNode, Contractor, row_answers, term, numerator, narrowed}
 use Rattle.roast.proofs.Quotients.{quotient_mono, shared_is, shared_has}
 
 -- ---- ranges
@@ -83,15 +84,25 @@ set_below B k r h = record { long = length-set B k r; each = each_set (λ j x. x
 pub set_above : (X B : Box) (k : ℕ) (r : Range) → X ⊑ B → get_or X k nothing ⊆ r → X ⊑ set B k r
 set_above X B k r h s = record { long = h.long ∙ sym (length-set B k r); each = each_set (λ j x. get_or X j nothing ⊆ x) B k r h.each s }
 
+-- ---- contractors
+
+-- what a contractor leaves is in order and lies in what was there
+abbrev pub Shrinks : Contractor → Type 0
+Shrinks f = (B : Box) (i : ℕ) (r : Range) → f B i ≡ Some r → Ordered r × (r ⊆ at B i)
+
+-- a smaller box leaves less than a larger one, which it then does not find in conflict
+abbrev pub Monotone : Contractor → Contractor → Type 0
+Monotone f g = (B C : Box) (i : ℕ) (r : Range) → Tidy B → B ⊑ C → HasNode B i → f B i ≡ Some r → (s : Range) × (g C i ≡ Some s) × (r ⊆ s)
+
 -- ---- places of a lawful meaning
 
 module _ (m : Meaning) (lawful : Lawful m) where
   pub coefficient_ordered : (i j : ℕ) → IsNode m i → IsNode m j → Ordered (coefficient_range m i j)
-  coefficient_ordered i j p q = place_ordered (2 ^ 20) (m.coefficient i j) (lawful.coefficients i j p q)
+  coefficient_ordered i j p q = (range_within (2 ^ 20) (m.coefficient i j) (lawful.coefficients i j p q)).1
 
   pub numerator_ordered : (B : Box) (i : ℕ) → IsNode m i → Ordered (numerator m B i)
   numerator_ordered B i p =
-      let r = place_ordered (2 ^ 42) (m.right_side i) (lawful.right_sides i p) in
+      let r = (range_within (2 ^ 42) (m.right_side i) (lawful.right_sides i p)).1 in
       let t = total_ordered (term m B i) m.size (λ j. by j (eqb j i)) in
       omega (arith, ints)
     where
@@ -125,7 +136,7 @@ pub record Opened (m : Meaning) (B : Box) (i : ℕ) (r : Range) : Type 0 where
 pub opened : (m : Meaning) (B : Box) (i : ℕ) (r : Range) → narrowed m B i ≡ Some r → Opened m B i r
 opened m B i r e = by (row_answers m B i) (holds_zero (coefficient_range m i i)) refl refl e
   where
-    by : (t v : Bool) → row_answers m B i ≡ t → holds_zero (coefficient_range m i i) ≡ v → cond t (cond v None (shared (at B i) (quotient (numerator m B i) (coefficient_range m i i)))) None ≡ Some r → Opened m B i r
+    by : (t v : Bool) → row_answers m B i ≡ t → holds_zero (coefficient_range m i i) ≡ v → (if t && not v then shared (at B i) (quotient (numerator m B i) (coefficient_range m i i)) else None) ≡ Some r → Opened m B i r
     by true false p s e = record { answers = p; apart = s; kept = e }
     by true true p s e = cc
     by false v p s e = cc
@@ -133,17 +144,20 @@ opened m B i r e = by (row_answers m B i) (holds_zero (coefficient_range m i i))
 pub opens : (m : Meaning) (B : Box) (i : ℕ) (r : Range) → Opened m B i r → narrowed m B i ≡ Some r
 opens m B i r o = rw (o.answers, o.apart) o.kept
 
-every_same : (t u : ℕ → Bool) (n : ℕ) → ((j : ℕ) → 1 ≤ j → j ≤ n → t j ≡ u j) → every t n ≡ every u n
+pub every_same : (t u : ℕ → Bool) (n : ℕ) → ((j : ℕ) → 1 ≤ j → j ≤ n → t j ≡ u j) → every t n ≡ every u n
 every_same t u zero h = refl
 every_same t u (suc n) h = ap₂ (λ a b. cond a b false) (every_same t u n (λ j p q. h j p (omega arith))) (h (suc n) (omega arith) (omega arith))
 
+pub first_cong : (f g : ℕ → Option Refusal) (n : ℕ) → ((i : ℕ) → Among n i → f i ≡ g i) → first f n ≡ first g n
+first_cong f g zero h = refl
+first_cong f g (suc n) h = ap₂ or_else (first_cong f g n (λ i p. h i (p.0, omega (arith, p.1)))) (h (suc n) (omega arith, omega arith))
+
 -- the tests answer the same in a box of the same length and a system of the same meaning
-answers_same : (m m' : Meaning) → Same m m' → (B C : Box) (i : ℕ) → length B ≡ length C → IsNode m i → row_answers m B i ≡ row_answers m' C i
-answers_same m m' same B C i long node =
-    (λ k. cond (eqb (long k) (same.sizes k)) (cond (told_same k) (is_told (same.right_sides i node k)) false) false)
+pub answers_same : (m m' : Meaning) → Same m m' → (B C : Box) (i : ℕ) → length B ≡ length C → IsNode m i → row_answers m B i ≡ row_answers m' C i
+answers_same m m' same B C i long node = λ k. eqb (long k) (same.sizes k) && is_none (or_else (columns k) (refusal_at (same.right_sides i node k)))
   where
-    told_same : every (λ j. is_told (m.coefficient i j)) m.size ≡ every (λ j. is_told (m'.coefficient i j)) m'.size
-    told_same = every_same _ _ m.size (λ j p q. ap is_told (same.coefficients i j node (p, q))) ∙ ap (every (λ j. is_told (m'.coefficient i j))) same.sizes
+    columns : first (λ j. refusal_at (m.coefficient i j)) m.size ≡ first (λ j. refusal_at (m'.coefficient i j)) m'.size
+    columns = first_cong _ _ m.size (λ j p. ap refusal_at (same.coefficients i j node p)) ∙ ap (first (λ j. refusal_at (m'.coefficient i j))) same.sizes
 
 module _ (m m' : Meaning) (same : Same m m') (lawful : Lawful m) where
   pub row_mono : (B C : Box) (i : ℕ) (r : Range) → Tidy B → B ⊑ C → IsNode m i → narrowed m B i ≡ Some r → (s : Range) × (narrowed m' C i ≡ Some s) × (r ⊆ s)
@@ -181,7 +195,23 @@ module _ (m m' : Meaning) (same : Same m m') (lawful : Lawful m) where
       sums = subst (λ n. total (term m B i) m.size ⊆ total (term m' C i) n) same.sizes (total_in _ _ m.size (λ j. term_ordered j (eqb j i)) (λ j p q. term_in j (p, q) (eqb j i)))
 
       numerators : numerator m B i ⊆ numerator m' C i
-      numerators = minus_extends.keeps_inclusion (right_side_range m i) (total (term m B i) m.size) (right_side_range m' i) (total (term m' C i) m'.size) (place_ordered (2 ^ 42) (m.right_side i) (lawful.right_sides i node)) (total_ordered (term m B i) m.size (λ j. term_ordered j (eqb j i))) (⊆-same _ _ (ap range_at (same.right_sides i node))) sums
+      numerators = minus_extends.keeps_inclusion (right_side_range m i) (total (term m B i) m.size) (right_side_range m' i) (total (term m' C i) m'.size) ((range_within (2 ^ 42) (m.right_side i) (lawful.right_sides i node)).1) (total_ordered (term m B i) m.size (λ j. term_ordered j (eqb j i))) (⊆-same _ _ (ap range_at (same.right_sides i node))) sums
 
       quotients : holds_zero (coefficient_range m i i) ≡ false → quotient (numerator m B i) (coefficient_range m i i) ⊆ quotient (numerator m' C i) (coefficient_range m' i i)
       quotients a = subst (λ d. quotient (numerator m B i) (coefficient_range m i i) ⊆ quotient (numerator m' C i) d) diagonal (quotient_mono (numerator m B i) (numerator m' C i) (coefficient_range m i i) a (numerator_ordered m lawful B i node) (numerator_ordered m' lawful' C i node') (coefficient_ordered m lawful i i node node) numerators)
+
+-- ---- rows are contractors
+
+pub row_shrinks : (m : Meaning) → Shrinks (narrowed m)
+row_shrinks m B i r e = let s = shared_is _ _ r (opened m B i r e).kept in (s.ordered, s.left)
+
+-- a row that leaves something is one of a box of the system's nodes
+row_fits : (m : Meaning) (B : Box) (i : ℕ) (r : Range) → narrowed m B i ≡ Some r → length B ≡ m.size
+row_fits m B i r e = by (eqb (length B) m.size) refl (opened m B i r e).answers
+  where
+    by : (t : Bool) → eqb (length B) m.size ≡ t → t && is_none (row_refusal m i) ≡ true → length B ≡ m.size
+    by true p q = eqb-true (length B) m.size p
+    by false p q = cc
+
+pub row_monotone : (m m' : Meaning) → Same m m' → Lawful m → Monotone (narrowed m) (narrowed m')
+row_monotone m m' same lawful B C i r tidy h n e = let fit = row_fits m B i r e in row_mono m m' same lawful B C i r tidy h (omega (arith, n.0, n.1)) e

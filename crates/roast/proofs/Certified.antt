@@ -8,7 +8,8 @@ use Rattle.balance.specs.declared.range.Range.{Range}
 use Rattle.balance.specs.declared.refusal.Refusal.{Refusal}
 use Rattle.balance.specs.declared.refusal.Refusal.TheVariants.{Certificate, Dominance, Wide}
 use Rattle.balance.specs.Ranges.{Between, limits}
-use Rattle.balance.specs.Meanings.{Place, told, refused, Meaning, Within, Lawful, range_at}
+use Rattle.balance.specs.Meanings.{Meaning, IsNode, Within, right_side_range}
+use Rattle.balance.proofs.PlaceLaws.{range_within}
 use Rattle.balance.specs.Places.{first, unless_refused}
 use Rattle.balance.specs.Points.{between}
 use Rattle.balance.proofs.Ranges.{sizes_within}
@@ -16,7 +17,7 @@ use Rattle.balance.proofs.Searches.{unrefused, refused_by, none_of, first_next, 
 use Rattle.balance.proofs.Entries.{first_entry, from_one, test_passed}
 use Rattle.std.specs.Option.{option_map}
 use Rattle.roast.specs.declared.certificate.Row.{Row}
-use Rattle.roast.specs.FirstBox.{Narrow, row, range_made, rows_made, largest_end}
+use Rattle.roast.specs.FirstBox.{Narrow, row, range_made, rows_made, box_made, largest_end}
 use Rattle.roast.proofs.Sums.{all_listed, largest_listed}
 use Rattle.roast.specs.Certificates.{magnitude, number, u, v, k, first_range, rounded_up, listed, number_refusal, certificate_refusal, dominance_refusal, wide_refusal}
 
@@ -93,19 +94,15 @@ module _ {X : Type 0} (f : ℕ → Option Refusal) (g : ℕ → X) where
 -- ---- the first box
 
 module _ (m : Meaning) (us : List ℤ) where
-  row_narrow : Lawful m → (i : ℕ) → 1 ≤ i → i ≤ m.size → dominance_refusal m us i ≡ None → Narrow (row m us i)
-  row_narrow lawful i p q h = (side_within (m.right_side i) (lawful.right_sides i (p, q)), positive (v m us i) (test_passed _ None (Dominance i) h).0)
+  row_narrow : ((i : ℕ) → IsNode m i → Within (2 ^ 42) (m.right_side i)) → (i : ℕ) → 1 ≤ i → i ≤ m.size → dominance_refusal m us i ≡ None → Narrow (row m us i)
+  row_narrow sides i p q h = (magnitude_within (2 ^ 42) (right_side_range m i) (range_within (2 ^ 42) (m.right_side i) (sides i (p, q))), positive (v m us i) (test_passed _ None (Dominance i) h).0)
     where
-      side_within : (q : Place) → Within (2 ^ 42) q → magnitude (range_at q) ≤ 2 ^ 42
-      side_within (told r) w = magnitude_within (2 ^ 42) r w
-      side_within (refused x y z) w = omega arith
-
       positive : (z : ℤ) → le_z (pos 1) z ≡ true → 1 ≤ nat_abs z
       positive z e = grind (arith, ints)
 
   module _ (rows : List Row) (is : rows ≡ listed (row m us) m.size) where
-    pub rows_narrow : Lawful m → first (dominance_refusal m us) m.size ≡ None → All Narrow rows
-    rows_narrow lawful h = subst (All Narrow) (sym is) (all_listed Narrow (row m us) m.size (λ i p. row_narrow lawful i p.0 p.1 (none_of (dominance_refusal m us) m.size h i p.0 p.1)))
+    pub rows_narrow : ((i : ℕ) → IsNode m i → Within (2 ^ 42) (m.right_side i)) → first (dominance_refusal m us) m.size ≡ None → All Narrow rows
+    rows_narrow sides h = subst (All Narrow) (sym is) (all_listed Narrow (row m us) m.size (λ i p. row_narrow sides i p.0 p.1 (none_of (dominance_refusal m us) m.size h i p.0 p.1)))
 
     module _ (number i end : ℕ) (here : number ≡ u us i) (largest : end ≡ largest_end number rows) where
       end_is : end ≡ k m us i
@@ -125,3 +122,8 @@ module _ (m : Meaning) (us : List ℤ) where
       let w = unrefused (wide_refusal m us i) r (first_range m us i) h in
       let l : k m us i ≤ 2 ^ 30 = leb-true _ _ (test_passed _ None (Wide i) w.0).0 in
       rw w.1 (omega (arith, ints), omega (arith, ints), omega (arith, ints))
+
+  pub box_done : (xs : List Range) (n : ℕ) → n ≡ m.size → first (dominance_refusal m us) m.size ≡ None → Filled (wide_refusal m us) (first_range m us) xs n → Ok xs ≡ box_made m us
+  box_done xs n e d filled =
+      let f = subst (Filled (wide_refusal m us) (first_range m us) xs) e filled in
+      rw (d, f.answered) (ap Ok f.items)

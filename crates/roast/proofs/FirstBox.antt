@@ -6,7 +6,7 @@ use Rattle.balance.specs.Ranges.{limits, Ordered}
 use Rattle.balance.specs.Meanings.{Meaning, IsNode, Same, Lawful, range_at, coefficient_range, right_side_range}
 use Rattle.balance.specs.Members.{Fraction, Member, Point, component, sum, Solves, SamePoint, ◌⊗◌}
 use Rattle.std.proofs.lemmas.Int.{unsigned_abs-mul}
-use Rattle.balance.proofs.Points.{picked_in}
+use Rattle.balance.proofs.PlaceLaws.{picked_in}
 use Rattle.roast.specs.Certificates.{magnitude, mignitude, u, sum_without, largest, others, v, rounded_up, k, LeastBound, listed, first_range, first_box, Passes}
 use Rattle.roast.specs.Narrowing.{Box}
 use Rattle.roast.specs.Runs.{Holds}
@@ -141,12 +141,12 @@ pub first_length : (m : Meaning) (us : List ℤ) → length (first_box m us) ≡
 first_length m us = length_listed (first_range m us) m.size
 
 module _ (m m' : Meaning) (same : Same m m') (us : List ℤ) where
-  v_same : (i : ℕ) → IsNode m i → v m us i ≡ v m' us i
+  pub v_same : (i : ℕ) → IsNode m i → v m us i ≡ v m' us i
   v_same i p = ap₂ (λ x y. pos (x * u us i) -ℤ pos y)
       (ap (λ a. mignitude (range_at a)) (same.coefficients i i p p))
       (sum_same _ _ i m.size (λ j q. ap (λ a. magnitude (range_at a) * u us j) (same.coefficients i j p q)) ∙ ap (others m' us i) same.sizes)
 
-  k_same : (i : ℕ) → k m us i ≡ k m' us i
+  pub k_same : (i : ℕ) → k m us i ≡ k m' us i
   k_same i = largest_same _ _ m.size (λ j p. ap₂ (λ a x. rounded_up (u us i * magnitude (range_at a)) (nat_abs x)) (same.right_sides j p) (v_same j p)) ∙ ap (largest (λ j. rounded_up (u us i * magnitude (right_side_range m' j)) (nat_abs (v m' us j)))) same.sizes
 
   pub first_same : first_box m us ≡ first_box m' us

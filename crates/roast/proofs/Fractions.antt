@@ -10,9 +10,10 @@ use Rattle.balance.specs.Ranges.{range, Ordered, Inside, ◌⊆◌, plus, minus,
 use Rattle.balance.specs.Members.{Fraction, ◌∈◌, ◌≈◌, ◌⊕◌, ◌⊗◌, sum}
 use Rattle.balance.proofs.Integers.{sum_times, between_low, between_high}
 use Rattle.balance.proofs.Ranges.{every_product, least, most}
-use Rattle.roast.specs.Rounding.{holds_zero, negated, quotient, RoundedOutward, shared, CommonPart}
-use Rattle.roast.proofs.Numbers.{≤_trans, grows, neg_times, cancels}
-use Rattle.roast.proofs.Quotients.{sign_of, quotient_rounds, rounds_negated, shared_common}
+use Rattle.roast.specs.Rounding.{holds_zero, quotient, AtMost, AtLeast, RoundedOutward, shared, CommonPart}
+use Rattle.balance.proofs.Integers.{grows}
+use Rattle.roast.proofs.Numbers.{≤_trans, neg_times, cancels, cancels_below}
+use Rattle.roast.proofs.Quotients.{sign_of, quotient_rounds, shared_common}
 
 -- ---- products by a natural, as clearing a denominator has them
 
@@ -104,46 +105,60 @@ in_times f g a x h k =
 
 -- ---- quotients
 
--- c x in m and c in d, d above 0: x in the rounded quotient
-in_quotient_above : (c x : Fraction) (m d q : Range) → pos 0 <ℤ d.lower → Ordered m → Ordered d → RoundedOutward m d q → c ∈ d → (c ⊗ x) ∈ m → x ∈ q
-in_quotient_above c x m d q s o o' r h g =
-    let e = c.bottom in
-    let w = x.bottom in
-    let p = c.top in
-    let l = (r.lower_end q.lower).0 (≤ℤ_refl q.lower) m.lower in
-    let u = (r.upper_end q.upper).0 (≤ℤ_refl q.upper) m.upper in
-    let first : Inside d.lower d = (≤ℤ_refl d.lower, o') in
-    let last : Inside d.upper d = (o', ≤ℤ_refl d.upper) in
-    let bottom : Inside m.lower m = (≤ℤ_refl m.lower, o) in
-    let top : Inside m.upper m = (o, ≤ℤ_refl m.upper) in
-    let above : pos 0 <ℤ d.upper = omega (arith, ints) in
-    let low : (p *ℤ q.lower) ≤ℤ (m.lower *ℤ pos e) = between_high (m.lower *ℤ pos e) (d.lower *ℤ pos e) (d.upper *ℤ pos e) p q.lower h.0 h.1 (below d.lower ((l d.lower bottom first).0 s)) (below d.upper ((l d.upper bottom last).0 above)) in
-    let high : (m.upper *ℤ pos e) ≤ℤ (p *ℤ q.upper) = between_low (m.upper *ℤ pos e) (d.lower *ℤ pos e) (d.upper *ℤ pos e) p q.upper h.0 h.1 (over d.lower ((u d.lower top first).0 s)) (over d.upper ((u d.upper top last).0 above)) in
-    (cancels (q.lower *ℤ pos w) x.top p positive (rw (turn q.lower (pos w) p, *ℤ_comm x.top p) (≤_trans _ _ _ (raise_high m.lower (p *ℤ q.lower) e w low) g.0)), cancels x.top (q.upper *ℤ pos w) p positive (rw (turn q.upper (pos w) p, *ℤ_comm x.top p) (≤_trans _ _ _ g.1 (raise_low m.upper (p *ℤ q.upper) e w high))))
-  where
-    positive : pos 0 <ℤ c.top
-    positive = let h₀ = h.0 in omega (arith, ints, c.positive, grows (pos 1) d.lower (pos c.bottom) (omega (arith, ints)) (omega (arith, ints)))
-
-    below : (z : ℤ) → (q.lower *ℤ z) ≤ℤ m.lower → ((z *ℤ pos c.bottom) *ℤ q.lower) ≤ℤ (m.lower *ℤ pos c.bottom)
-    below z t = rw (turn z (pos c.bottom) q.lower) (grows (q.lower *ℤ z) m.lower (pos c.bottom) (omega (arith, ints)) t)
-
-    over : (z : ℤ) → m.upper ≤ℤ (q.upper *ℤ z) → (m.upper *ℤ pos c.bottom) ≤ℤ ((z *ℤ pos c.bottom) *ℤ q.upper)
-    over z t = rw (turn z (pos c.bottom) q.upper) (grows m.upper (q.upper *ℤ z) (pos c.bottom) (omega (arith, ints)) t)
-
-abbrev opposite : Fraction → Fraction
-opposite f = record { top = neg_ℤ f.top; bottom = f.bottom; positive = f.positive }
-
-in_opposite : (f : Fraction) (r : Range) → f ∈ r → opposite f ∈ negated r
-in_opposite f r h = let h₀ = h.0 in let h₁ = h.1 in (rw (neg_times r.upper (pos f.bottom)) (omega (arith, ints)), rw (neg_times r.lower (pos f.bottom)) (omega (arith, ints)))
-
+-- c × x in m and c in d: x in the rounded quotient
 pub in_quotient : (c x : Fraction) (m d : Range) → holds_zero d ≡ false → Ordered m → Ordered d → c ∈ d → (c ⊗ x) ∈ m → x ∈ quotient m d
 in_quotient c x m d e o o' h g = ⊎_elim
-    (λ s. in_quotient_above c x m d (quotient m d) s o o' (quotient_rounds m d e o o') h g)
-    (λ s. in_quotient_above (opposite c) x (negated m) (negated d) (quotient m d) (omega (arith, ints)) (omega (arith, ints)) (omega (arith, ints)) (rounds_negated m d _ (quotient_rounds m d e o o')) (in_opposite c d h) (turned (in_opposite (c ⊗ x) m g)))
+    (λ s.
+    let t : pos 0 <ℤ d.upper = omega (arith, ints) in
+    (cancels (q.lower *ℤ pos x.bottom) x.top c.top (above s) (lower q.lower ((low m.lower d.lower bottom first).0 s) ((low m.lower d.upper bottom last).0 t)), cancels x.top (q.upper *ℤ pos x.bottom) c.top (above s) (upper q.upper ((high m.upper d.lower top first).0 s) ((high m.upper d.upper top last).0 t))))
+    (λ s.
+    let t : d.lower <ℤ pos 0 = omega (arith, ints) in
+    (cancels_below (q.lower *ℤ pos x.bottom) x.top c.top (below s) (upper q.lower ((low m.upper d.lower top first).1 t) ((low m.upper d.upper top last).1 s)), cancels_below x.top (q.upper *ℤ pos x.bottom) c.top (below s) (lower q.upper ((high m.lower d.lower bottom first).1 t) ((high m.lower d.upper bottom last).1 s))))
     (sign_of d e o')
   where
-    turned : opposite (c ⊗ x) ∈ negated m → (opposite c ⊗ x) ∈ negated m
-    turned t = rw (neg_times c.top x.top) t
+    q : Range
+    q = quotient m d
+
+    r : RoundedOutward m d q
+    r = quotient_rounds m d e o o'
+
+    low : (n a : ℤ) → Inside n m → Inside a d → AtMost q.lower n a
+    low = (r.lower_end q.lower).0 (≤ℤ_refl q.lower)
+
+    high : (n a : ℤ) → Inside n m → Inside a d → AtLeast q.upper n a
+    high = (r.upper_end q.upper).0 (≤ℤ_refl q.upper)
+
+    first : Inside d.lower d
+    first = (≤ℤ_refl d.lower, o')
+
+    last : Inside d.upper d
+    last = (o', ≤ℤ_refl d.upper)
+
+    bottom : Inside m.lower m
+    bottom = (≤ℤ_refl m.lower, o)
+
+    top : Inside m.upper m
+    top = (o, ≤ℤ_refl m.upper)
+
+    -- the sign of c is that of d
+    above : pos 0 <ℤ d.lower → pos 0 <ℤ c.top
+    above s = let h₀ = h.0 in omega (arith, ints, c.positive, grows (pos 1) d.lower (pos c.bottom) (omega (arith, ints)) (omega (arith, ints)))
+
+    below : d.upper <ℤ pos 0 → c.top <ℤ pos 0
+    below s = let h₁ = h.1 in omega (arith, ints, c.positive, grows d.upper (neg_ℤ (pos 1)) (pos c.bottom) (omega (arith, ints)) (omega (arith, ints)))
+
+    -- a whole number by both ends of d, and so by c
+    lower : (z : ℤ) → (z *ℤ d.lower) ≤ℤ m.lower → (z *ℤ d.upper) ≤ℤ m.lower → ((z *ℤ pos x.bottom) *ℤ c.top) ≤ℤ (x.top *ℤ c.top)
+    lower z k l = rw (turn z (pos x.bottom) c.top, *ℤ_comm x.top c.top) (≤_trans _ _ _ (raise_high m.lower (c.top *ℤ z) c.bottom x.bottom (between_high (m.lower *ℤ pos c.bottom) (d.lower *ℤ pos c.bottom) (d.upper *ℤ pos c.bottom) c.top z h.0 h.1 (by d.lower k) (by d.upper l))) g.0)
+      where
+        by : (a : ℤ) → (z *ℤ a) ≤ℤ m.lower → ((a *ℤ pos c.bottom) *ℤ z) ≤ℤ (m.lower *ℤ pos c.bottom)
+        by a t = rw (turn a (pos c.bottom) z) (grows (z *ℤ a) m.lower (pos c.bottom) (omega (arith, ints)) t)
+
+    upper : (z : ℤ) → m.upper ≤ℤ (z *ℤ d.lower) → m.upper ≤ℤ (z *ℤ d.upper) → (x.top *ℤ c.top) ≤ℤ ((z *ℤ pos x.bottom) *ℤ c.top)
+    upper z k l = rw (turn z (pos x.bottom) c.top, *ℤ_comm x.top c.top) (≤_trans _ _ _ g.1 (raise_low m.upper (c.top *ℤ z) c.bottom x.bottom (between_low (m.upper *ℤ pos c.bottom) (d.lower *ℤ pos c.bottom) (d.upper *ℤ pos c.bottom) c.top z h.0 h.1 (by d.lower k) (by d.upper l))))
+      where
+        by : (a : ℤ) → m.upper ≤ℤ (z *ℤ a) → (m.upper *ℤ pos c.bottom) ≤ℤ ((a *ℤ pos c.bottom) *ℤ z)
+        by a t = rw (turn a (pos c.bottom) z) (grows m.upper (z *ℤ a) (pos c.bottom) (omega (arith, ints)) t)
 
 -- ---- the common part
 

@@ -1,112 +1,103 @@
 -- Every run of calls is a chain of moves: a row step, or a reading that is accepted.
-use Rattle.std.proofs.Common.{◌≡◌, ℕ, zero, suc, ◌-◌, ◌≤◌, Bool, true, false, cond, eqb, leb, ◌⊎◌, List, [], ◌∷◌, ◌++◌, length, set, ℤ, Some, None, Option, sym, refl, ap, ◌∙◌, subst, inl, inr, ⊎_elim, arith}
-use lib.Signed.{lt_z}
+use Rattle.std.proofs.Common.{◌≡◌, ℕ, zero, suc, ◌-◌, Bool, true, false, cond, if◌then◌else◌, eqb, leb, ◌⊎◌, List, [], ◌∷◌, ◌++◌, length, set, ℤ, Some, None, Ok, Err, Option, Result, is_ok, int_le, sym, refl, ◌∙◌, subst, inl, inr, ⊎_elim, arith}
 use Rattle.std.proofs.lemmas.Bool.{leb-true}
-use Rattle.std.proofs.lemmas.List.{length-set, append_assoc, append-nil, get_or-set_same}
+use Rattle.std.proofs.lemmas.List.{length-set, get_or-set_same}
 use Rattle.balance.specs.declared.range.Range.{Range}
+use Rattle.balance.specs.declared.refusal.Refusal.{Refusal}
 use Rattle.balance.specs.declared.refusal.Refusal.TheVariants.{Node, Crossed}
 use Rattle.balance.specs.Ranges.{range, ◌⊆◌}
-use Rattle.balance.specs.Meanings.{Meaning, is_node, coefficient_range}
-use Rattle.balance.specs.Rows.{at}
+use Rattle.balance.specs.Meanings.{is_node}
+use Rattle.balance.proofs.Refusals.{number-eqb}
+use Rattle.balance.proofs.Searches.{is_a_node}
 use Rattle.roast.specs.declared.call.Reading.{Reading}
-use Rattle.roast.specs.declared.call.Answer.TheVariants.{Ends}
-use Rattle.roast.specs.Rounding.{quotient, shared}
-use Rattle.roast.specs.Narrowing.{Box, narrowed, numerator, take, Sweep, swept, stopped, sweep, sweep_on, sweep_next}
-use Rattle.roast.specs.Machine.{Ask, row_step_at, round, reading_at, readings, rest, ends_at, tells, refuses, step_outcome, sweep_outcome, reading_outcome, readings_outcome, mark, marked, outcome, after}
+use Rattle.roast.specs.Rounding.{shared}
+use Rattle.roast.specs.Narrowing.{Box, at, HasNode, Contractor}
+use Rattle.roast.specs.Machine.{Transition, step_to, row_step, then_step, row_steps, all_or_none, round, reading, readings, mark, Ask, ask_row_step, ask_round, ask_reading, ask_readings, ask_rest, ask_ends, outcome, after}
 use Rattle.roast.specs.Runs.{Bound, accepted_if, accepted_records, accepted_one, accepted, Among, here, there}
-use Rattle.roast.proofs.Quotients.{Shared, shared_is}
-use Rattle.roast.proofs.Boxes.{nothing, ◌⊑◌, Tidy, ⊆-trans, ⊑_refl, ⊑_trans, set_tidy, set_below, opened}
-
-abbrev pub IsIn : Box → ℕ → Type 0
-IsIn B i = (1 ≤ i) × (i ≤ length B)
+use Rattle.roast.proofs.Quotients.{shared_is}
+use Rattle.roast.proofs.Boxes.{nothing, ◌⊑◌, Tidy, Shrinks, ⊆-trans, ⊑_refl, ⊑_trans, set_tidy, set_below}
 
 -- from one box to another, with the readings accepted on the way
-pub data Move (m : Meaning) : Box → Box → List Bound → Type 0 where
-  stays : {B : Box} → Move m B B []
-  row : {B : Box} {i : ℕ} {r : Range} → IsIn B i → narrowed m B i ≡ Some r → Move m B (set B (i - 1) r) []
-  read : {B : Box} {i : ℕ} {s r : Range} → IsIn B i → shared (at B i) s ≡ Some r → Move m B (set B (i - 1) r) (record { node = i; span = s } ∷ [])
-  then : {B C D : Box} {bs ds : List Bound} → Move m B C bs → Move m C D ds → Move m B D (bs ++ ds)
+pub data Move (f : Contractor) : Box → Box → List Bound → Type 0 where
+  stays : {B : Box} → Move f B B []
+  row : {B : Box} {i : ℕ} {r : Range} → HasNode B i → f B i ≡ Some r → Move f B (set B (i - 1) r) []
+  read : {B : Box} {i : ℕ} {s r : Range} → HasNode B i → shared (at B i) s ≡ Some r → Move f B (set B (i - 1) r) (record { node = i; span = s } ∷ [])
+  joined : {B C D : Box} {bs ds : List Bound} → Move f B C bs → Move f C D ds → Move f B D (bs ++ ds)
 
-pub move_long : {m : Meaning} {B C : Box} {bs : List Bound} → Move m B C bs → length C ≡ length B
+pub move_long : {f : Contractor} {B C : Box} {bs : List Bound} → Move f B C bs → length C ≡ length B
 move_long stays = refl
 move_long (row {B = B} {i = i} {r = r} n e) = length-set B (i - 1) r
 move_long (read {B = B} {i = i} {r = r} n e) = length-set B (i - 1) r
-move_long (then h k) = move_long k ∙ move_long h
+move_long (joined h k) = move_long k ∙ move_long h
 
 -- ---- every call is a move
 
-pub is_in : (B : Box) (i : ℕ) → is_node (length B) i ≡ true → IsIn B i
-is_in B i e = by (leb 1 i) (leb i (length B)) refl refl e
+pub has_node : (B : Box) (i : ℕ) → is_node (length B) i ≡ true → HasNode B i
+has_node B i e = by (leb 1 i) (leb i (length B)) refl refl e
   where
-    by : (t u : Bool) → leb 1 i ≡ t → leb i (length B) ≡ u → cond t u false ≡ true → IsIn B i
+    by : (t u : Bool) → leb 1 i ≡ t → leb i (length B) ≡ u → cond t u false ≡ true → HasNode B i
     by true true p q e = (leb-true 1 i p, leb-true i (length B) q)
     by true false p q e = cc
     by false u p q e = cc
 
-reading_moves : (m : Meaning) (B : Box) (i : ℕ) (l u : ℤ) → Move m B (reading_outcome B i l u).box (accepted_if (eqb (mark (reading_outcome B i l u).answer) 0) i l u)
-reading_moves m B i l u = by (is_node (length B) i) refl (lt_z u l) (shared (at B i) (range l u)) refl
+-- the row step of a node that is there
+pub row_step_at : (f : Contractor) (B : Box) (i : ℕ) → HasNode B i → row_step f B i ≡ step_to B i (f B i)
+row_step_at f B i n = let t = is_a_node (length B) i n.0 n.1 in rw t refl
+
+pub row_step_moves : (f : Contractor) (B : Box) (i : ℕ) → Move f B (row_step f B i).1 []
+row_step_moves f B i = by (is_node (length B) i) refl (f B i) refl
   where
-    by : (t : Bool) → is_node (length B) i ≡ t → (v : Bool) (o : Option Range) → shared (at B i) (range l u) ≡ o → Move m B (cond t (cond v (refuses B (Crossed i)) (step_outcome B (take B i o))) (refuses B (Node i))).box (accepted_if (eqb (mark (cond t (cond v (refuses B (Crossed i)) (step_outcome B (take B i o))) (refuses B (Node i))).answer) 0) i l u)
-    by true e true o f = stays
-    by true e false (Some r) f = read (is_in B i e) f
-    by true e false None f = stays
-    by false e v o f = stays
+    by : (t : Bool) → is_node (length B) i ≡ t → (o : Option Range) → f B i ≡ o → let x : Transition Bool = if t then step_to B i o else (Err (Node i), B) in Move f B x.1 []
+    by true e (Some r) h = row (has_node B i e) h
+    by true e None h = stays
+    by false e o h = stays
 
-abbrev accepted_record : Reading → List Bound
-accepted_record r = accepted_if (eqb r.answer 0) r.node r.lower r.upper
-
-records_append : (xs ys : List Reading) → accepted_records (xs ++ ys) ≡ accepted_records xs ++ accepted_records ys
-records_append [] ys = refl
-records_append (x ∷ xs) ys = ap (λ t. accepted_record x ++ t) (records_append xs ys) ∙ sym (append_assoc (accepted_record x) (accepted_records xs) (accepted_records ys))
-
-readings_moves : (m : Meaning) (B : Box) (done rs : List Reading) → (bs : List Bound) × Move m B (readings_outcome B done rs).box bs × (accepted_records (readings_outcome B done rs).records ≡ accepted_records done ++ bs)
-readings_moves m B done [] = ([], stays, sym (append-nil (accepted_records done)))
-readings_moves m B done (r ∷ rs) =
-    let o = reading_outcome B r.node r.lower r.upper in
-    let x = marked r (mark o.answer) in
-    let h = readings_moves m o.box (done ++ x ∷ []) rs in
-    (accepted_record x ++ h.0, then (reading_moves m B r.node r.lower r.upper) h.1, h.2 ∙ simp (records_append, append_assoc, append-nil))
-
-abbrev Swept : Meaning → Box → Sweep → Type 0
-Swept m B (swept n C) = Move m B C []
-Swept m B (stopped i) = Unit {0}
-
-sweep_moves : (m : Meaning) (B : Box) (k : ℕ) → k ≤ length B → Swept m B (sweep m B k)
-sweep_moves m B zero p = stays
-sweep_moves m B (suc k) p = next (sweep m B k) (sweep_moves m B k (omega arith))
+pub row_steps_move : (f : Contractor) (B : Box) (k : ℕ) → Move f B (row_steps f B k).1 []
+row_steps_move f B zero = stays
+row_steps_move f B (suc k) = next (row_steps f B k).0 (row_steps f B k).1 (row_steps_move f B k)
   where
-    next : (w : Sweep) → Swept m B w → Swept m B (sweep_next m (suc k) w)
-    next (swept n C) h = go (narrowed m C (suc k)) refl
-      where
-        go : (o : Option Range) → narrowed m C (suc k) ≡ o → Swept m B (sweep_on n (take C (suc k) o))
-        go (Some r) e = then h (row (omega arith, omega (arith, move_long h)) e)
-        go None e = tt
-    next (stopped i) h = tt
+    next : (a : Result ℕ Refusal) (C : Box) → Move f B C [] → Move f B (then_step f (suc k) a C).1 []
+    next (Ok n) C h = joined h (row_step_moves f C (suc k))
+    next (Err e) C h = h
 
-pub call_moves : (m : Meaning) (B : Box) (c : Ask) → Move m B (outcome m B c).box (accepted_one m B c)
-call_moves m B (row_step_at i) = by (is_node (length B) i) refl (narrowed m B i) refl
+pub round_moves : (f : Contractor) (B : Box) → Move f B (round f B).1 []
+round_moves f B = by (row_steps f B (length B)).0 (row_steps f B (length B)).1 (row_steps_move f B (length B))
   where
-    by : (t : Bool) → is_node (length B) i ≡ t → (o : Option Range) → narrowed m B i ≡ o → Move m B (cond t (step_outcome B (take B i o)) (refuses B (Node i))).box []
-    by true e (Some r) f = row (is_in B i e) f
-    by true e None f = stays
-    by false e o f = stays
-call_moves m B round = by (sweep m B (length B)) (sweep_moves m B (length B) (omega arith))
-  where
-    by : (w : Sweep) → Swept m B w → Move m B (sweep_outcome B w).box []
-    by (swept n C) h = h
-    by (stopped i) h = stays
-call_moves m B (reading_at i l u) = reading_moves m B i l u
-call_moves m B (readings rs) = let h = readings_moves m B [] rs in subst (λ bs. Move m B (readings_outcome B [] rs).box bs) (sym h.2) h.1
-call_moves m B rest = stays
-call_moves m B (ends_at i) = by (is_node (length B) i)
-  where
-    by : (t : Bool) → Move m B (cond t (tells B (Ends ((at B i).lower, (at B i).upper))) (refuses B (Node i))).box []
-    by true = stays
-    by false = stays
+    by : (a : Result ℕ Refusal) (C : Box) → Move f B C [] → Move f B (all_or_none B a C).1 []
+    by (Ok n) C h = h
+    by (Err e) C h = stays
 
-pub run_moves : (m : Meaning) (B : Box) (cs : List Ask) → Move m B (after m B cs) (accepted m B cs)
-run_moves m B [] = stays
-run_moves m B (c ∷ cs) = then (call_moves m B c) (run_moves m (outcome m B c).box cs)
+pub reading_moves : (f : Contractor) (B : Box) (i : ℕ) (l u : ℤ) → Move f B (reading B i l u).1 (accepted_if (is_ok (reading B i l u).0) i l u)
+reading_moves f B i l u = by (is_node (length B) i) refl (int_le l u) (shared (at B i) (range l u)) refl
+  where
+    by : (t : Bool) → is_node (length B) i ≡ t → (v : Bool) (o : Option Range) → shared (at B i) (range l u) ≡ o → let x : Transition Bool = if t then if v then step_to B i o else (Err (Crossed i), B) else (Err (Node i), B) in Move f B x.1 (accepted_if (is_ok x.0) i l u)
+    by true e true (Some r) h = read (has_node B i e) h
+    by true e true None h = stays
+    by true e false o h = stays
+    by false e v o h = stays
+
+-- a record is marked 0 exactly if its reading is accepted
+mark_ok : (r : Result Bool Refusal) → eqb (mark r) 0 ≡ is_ok r
+mark_ok (Ok changed) = refl
+mark_ok (Err e) = number-eqb e
+
+pub readings_move : (f : Contractor) (B : Box) (rs : List Reading) → Move f B (readings B rs).1 (accepted_records (readings B rs).0)
+readings_move f B [] = stays
+readings_move f B (r ∷ rs) =
+    let t = reading B r.node r.lower r.upper in
+    joined (subst (λ a. Move f B t.1 (accepted_if a r.node r.lower r.upper)) (sym (mark_ok t.0)) (reading_moves f B r.node r.lower r.upper)) (readings_move f t.1 rs)
+
+pub call_moves : (f : Contractor) (B : Box) (c : Ask) → Move f B (outcome f B c).box (accepted_one f B c)
+call_moves f B (ask_row_step i) = row_step_moves f B i
+call_moves f B ask_round = round_moves f B
+call_moves f B (ask_reading i l u) = reading_moves f B i l u
+call_moves f B (ask_readings rs) = readings_move f B rs
+call_moves f B ask_rest = stays
+call_moves f B (ask_ends i) = stays
+
+pub run_moves : (f : Contractor) (B : Box) (cs : List Ask) → Move f B (after f B cs) (accepted f B cs)
+run_moves f B [] = stays
+run_moves f B (c ∷ cs) = joined (call_moves f B c) (run_moves f (outcome f B c).box cs)
 
 -- ---- what a chain of moves keeps
 
@@ -123,15 +114,12 @@ among_split [] ds h = inr h
 among_split (a ∷ bs) ds here = inl here
 among_split (a ∷ bs) ds (there h) = ⊎_elim (λ k. inl (there k)) inr (among_split bs ds h)
 
-narrowed_is : (m : Meaning) (B : Box) (i : ℕ) (r : Range) → narrowed m B i ≡ Some r → Shared (at B i) (quotient (numerator m B i) (coefficient_range m i i)) r
-narrowed_is m B i r e = shared_is _ _ r (opened m B i r e).kept
-
 -- boxes shrink, and stay in order
-pub move_shrinks : {m : Meaning} {B C : Box} {bs : List Bound} → Tidy B → Move m B C bs → (C ⊑ B) × Tidy C
-move_shrinks {m} {B} t stays = (⊑_refl B, t)
-move_shrinks {m} t (row {B = B} {i = i} {r = r} n e) = let s = narrowed_is m B i r e in (set_below B (i - 1) r s.left, set_tidy B (i - 1) r t s.ordered)
-move_shrinks {m} t (read {B = B} {i = i} {s = a} {r = r} n e) = let s = shared_is (at B i) a r e in (set_below B (i - 1) r s.left, set_tidy B (i - 1) r t s.ordered)
-move_shrinks t (then h k) = let x = move_shrinks t h in let y = move_shrinks x.1 k in (⊑_trans y.0 x.0, y.1)
+pub move_shrinks : {f : Contractor} {B C : Box} {bs : List Bound} → Shrinks f → Tidy B → Move f B C bs → (C ⊑ B) × Tidy C
+move_shrinks {f} {B} law t stays = (⊑_refl B, t)
+move_shrinks law t (row {B = B} {i = i} {r = r} n e) = let s = law B i r e in (set_below B (i - 1) r s.1, set_tidy B (i - 1) r t s.0)
+move_shrinks law t (read {B = B} {i = i} {s = a} {r = r} n e) = let s = shared_is (at B i) a r e in (set_below B (i - 1) r s.left, set_tidy B (i - 1) r t s.ordered)
+move_shrinks law t (joined h k) = let x = move_shrinks law t h in let y = move_shrinks law x.1 k in (⊑_trans y.0 x.0, y.1)
 
 -- and lie in every accepted reading
 abbrev pub Meets : Box → List Bound → Type 0
@@ -141,8 +129,8 @@ alone : {b a : Bound} → Among b (a ∷ []) → a ≡ b
 alone here = refl
 alone (there h) = elim h [ ]
 
-pub move_meets : {m : Meaning} {B C : Box} {bs : List Bound} → Tidy B → Move m B C bs → Meets C bs
-move_meets t stays b h = elim h [ ]
-move_meets t (row n e) b h = elim h [ ]
-move_meets t (read {B = B} {i = i} {s = a} {r = r} n e) b h = subst (λ x. at (set B (i - 1) r) x.node ⊆ x.span) (alone h) (subst (λ x. x ⊆ a) (sym (get_or-set_same B (i - 1) r nothing (omega arith))) (shared_is (at B i) a r e).right)
-move_meets t (then {C = C} {bs = bs} {ds = ds} h k) b a = let x = move_shrinks t h in ⊎_elim (λ l. ⊆-trans ((move_shrinks x.1 k).0.each (b.node - 1)) (move_meets t h b l)) (λ r. move_meets x.1 k b r) (among_split bs ds a)
+pub move_meets : {f : Contractor} {B C : Box} {bs : List Bound} → Shrinks f → Tidy B → Move f B C bs → Meets C bs
+move_meets law t stays b h = elim h [ ]
+move_meets law t (row n e) b h = elim h [ ]
+move_meets law t (read {B = B} {i = i} {s = a} {r = r} n e) b h = subst (λ x. at (set B (i - 1) r) x.node ⊆ x.span) (alone h) (subst (λ x. x ⊆ a) (sym (get_or-set_same B (i - 1) r nothing (omega arith))) (shared_is (at B i) a r e).right)
+move_meets law t (joined {C = C} {bs = bs} {ds = ds} h k) b a = let x = move_shrinks law t h in ⊎_elim (λ l. ⊆-trans ((move_shrinks law x.1 k).0.each (b.node - 1)) (move_meets law t h b l)) (λ r. move_meets law x.1 k b r) (among_split bs ds a)

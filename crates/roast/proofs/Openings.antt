@@ -1,17 +1,18 @@
 -- An opening succeeds exactly when every place answers, the certificate passes and the first box keeps its limit.
-use Rattle.std.proofs.Common.{◌≡◌, ◌^◌, true, eqb, leb, List, length, ℤ, pos, ◌≤ℤ◌, Some, None, Ok, Err, Option, refl, arith}
+use Rattle.std.proofs.Common.{◌≡◌, ◌^◌, true, eqb, leb, List, [], ◌∷◌, length, ℤ, pos, ◌≤ℤ◌, Some, None, Ok, Err, Option, refl, arith}
 use lib.Signed.{le_z}
 use borrow.Author.Differences.{ints}
 use Rattle.std.proofs.lemmas.Bool.{eq-eqb, le-leb, leb-true}
 use Rattle.balance.specs.declared.refusal.Refusal.{Refusal}
 use Rattle.balance.specs.declared.refusal.Refusal.TheVariants.{Dominance, Wide}
-use Rattle.balance.specs.Meanings.{Place, told, refused, Meaning, Told}
-use Rattle.balance.specs.Places.{first, unless_refused, refusal_at, row_refusal, first_refusal}
+use Rattle.balance.specs.Meanings.{Meaning}
+use Rattle.balance.specs.Places.{first, first_of, unless_refused, row_refusal, first_refusal}
 use Rattle.balance.specs.Points.{between}
 use Rattle.balance.proofs.Searches.{none_of, all_answer}
 use Rattle.roast.specs.Certificates.{number, v, k, first_box, number_refusal, certificate_refusal, dominance_refusal, wide_refusal, opening, Opens, OpensExactly}
 use Rattle.balance.proofs.Entries.{none_all, test_passed}
 use Rattle.roast.proofs.Certified.{certified}
+use Rattle.roast.proofs.Solvable.{row_unrefused}
 
 -- ---- from no refusal
 
@@ -32,13 +33,9 @@ module _ (m : Meaning) (us : List ℤ) where
 
 -- ---- to no refusal
 
-told_none : (p : Place) → Told p → refusal_at p ≡ None
-told_none (told r) t = refl
-told_none (refused a b c) t = absurd t
-
 module _ (m : Meaning) (us : List ℤ) (o : Opens m us) where
   no_place : first_refusal m ≡ None
-  no_place = none_all (row_refusal m) m.size (λ i p q. rw (none_all (λ j. refusal_at (m.coefficient i j)) m.size (λ j a b. told_none (m.coefficient i j) (o.answers.coefficients i j (p, q) (a, b))), told_none (m.right_side i) (o.answers.right_sides i (p, q))))
+  no_place = none_all (row_refusal m) m.size (λ i p q. row_unrefused m o.answers i (p, q))
 
   no_number : certificate_refusal m.size us ≡ None
   no_number =
@@ -66,7 +63,7 @@ opens_exactly m us = by (first_refusal m) (certificate_refusal m.size us) (first
     not_opened : (e : Refusal) → opening m us ≡ Err e → Opens m us → ⊥
     not_opened e h o = cc (opens_so m us o)
 
-    by : (a b d w : Option Refusal) → first_refusal m ≡ a → certificate_refusal m.size us ≡ b → first (dominance_refusal m us) m.size ≡ d → first (wide_refusal m us) m.size ≡ w → OpensExactly m us (unless_refused a (unless_refused b (unless_refused d (unless_refused w (Ok (first_box m us))))))
+    by : (a b d w : Option Refusal) → first_refusal m ≡ a → certificate_refusal m.size us ≡ b → first (dominance_refusal m us) m.size ≡ d → first (wide_refusal m us) m.size ≡ w → OpensExactly m us (unless_refused (first_of (a ∷ b ∷ d ∷ w ∷ [])) (Ok (first_box m us)))
     by None None None None a b d w = (opens m us a b d w, refl)
     by None None None (Some e) a b d w = not_opened e (rw (a, b, d, w))
     by None None (Some e) wo a b d w = not_opened e (rw (a, b, d))

@@ -1,23 +1,24 @@
--- The order of calls does not matter: every run that accepts what a run to rest accepted keeps the resting box.
-use Rattle.std.proofs.Common.{◌≡◌, ℕ, zero, suc, ◌-◌, ◌≤◌, Bool, true, false, cond, not, List, [], ◌∷◌, length, Some, None, Err, Option, sym, refl, ◌∙◌, subst, arith}
+-- The order of calls does not matter: a box at rest stays in the box of every run whose first box and accepted readings it lies in.
+use Rattle.std.proofs.Common.{◌≡◌, ℕ, suc, ◌-◌, ◌≤◌, Bool, true, false, not, ◌&&◌, length, get_or, set, Some, None, Option, List, sym, refl, subst, ◌∙◌, ap, arith}
+use native.Mathlib.Decide.{dec_le}
 use lib.Signed.{le_z}
 use borrow.Author.Differences.{ints}
+use Rattle.std.proofs.lemmas.List.{get_or_past}
 use Rattle.balance.specs.declared.range.Range.{Range}
-use Rattle.balance.specs.declared.refusal.Refusal.TheVariants.{Node, Conflict}
-use Rattle.balance.specs.Ranges.{◌⊆◌}
-use Rattle.balance.specs.Meanings.{Meaning, is_node, Same, Lawful}
-use Rattle.balance.specs.Rows.{at}
+use Rattle.balance.specs.Ranges.{Ordered, ◌⊆◌}
 use Rattle.balance.proofs.Points.{every_passes}
-use Rattle.roast.specs.Narrowing.{Box, narrowed, same_number, same_range, take, row_step, rests, Sweep, swept, stopped, sweep, sweep_on, sweep_next}
-use Rattle.roast.specs.Machine.{Ask, row_step_at, round, reading_at, readings, rest, ends_at, refuses, step_outcome, sweep_outcome, outcome, after}
-use Rattle.roast.specs.Runs.{Bound, accepted, accepted_one, Among, here, SameSet, Rests, Calm, NoConflict}
+use Rattle.roast.specs.Rounding.{shared}
+use Rattle.roast.specs.Narrowing.{Box, at, HasNode, Contractor}
+use Rattle.roast.specs.Machine.{same_number, same_range, step_to, row_step, changes_nothing, Ask, after}
+use Rattle.roast.specs.Runs.{Bound, accepted, Among, SameSet, Rests, LiesIn, RestsIn, IsLargestAtRest, NoConflict}
 use Rattle.roast.proofs.Quotients.{shared_is}
-use Rattle.roast.proofs.Boxes.{◌⊑◌, Tidy, ⊆-trans, ⊑-antisym, set_above, same_back, same_lawful, row_mono}
-use Rattle.roast.proofs.Moves.{IsIn, is_in, Move, stays, row, read, then, move_long, call_moves, run_moves, among_left, among_right, move_shrinks, Meets, move_meets}
+use Rattle.roast.proofs.Boxes.{nothing, ◌⊑◌, ⊆-refl, Tidy, Shrinks, Monotone, ⊆-trans, ⊑-antisym, set_above}
+use Rattle.roast.proofs.Moves.{row_step_at, run_moves, move_shrinks, Meets, move_meets}
+use Rattle.roast.proofs.Calm.{run_keeps, run_calm}
 
 -- ---- a box at rest
 
-both : (t u : Bool) → cond t u false ≡ true → (t ≡ true) × (u ≡ true)
+both : (t u : Bool) → t && u ≡ true → (t ≡ true) × (u ≡ true)
 both true u e = (refl, e)
 both false u e = cc
 
@@ -28,89 +29,89 @@ same_inside r s e =
     let q : le_z r.upper s.upper ≡ true = (both (le_z r.upper s.upper) (le_z s.upper r.upper) x.1).0 in
     record { low = omega (arith, ints); high = omega (arith, ints) }
 
--- row i of m leaves node i's range alone
-abbrev Kept : Meaning → Box → ℕ → Type 0
-Kept m X i = (r : Range) × (narrowed m X i ≡ Some r) × (at X i ⊆ r)
+-- node i's range is left alone
+abbrev Kept : Contractor → Box → ℕ → Type 0
+Kept f X i = (r : Range) × (f X i ≡ Some r) × (at X i ⊆ r)
 
-step_kept : (m : Meaning) (X : Box) (i : ℕ) → rests (row_step m X i) ≡ true → Kept m X i
-step_kept m X i e = by (narrowed m X i) refl e
+rest_kept : (f : Contractor) (X : Box) → Rests f X → (i : ℕ) → HasNode X i → Kept f X i
+rest_kept f X still i n = by (f X i) refl (sym (ap (λ t. changes_nothing t.0) (row_step_at f X i n)) ∙ every_passes (λ i. changes_nothing (row_step f X i).0) (length X) still i n.0 n.1)
   where
     twice : (t : Bool) → not (not t) ≡ true → t ≡ true
     twice true e = refl
     twice false e = e
 
-    by : (o : Option Range) → narrowed m X i ≡ o → rests (take X i o) ≡ true → Kept m X i
-    by (Some r) f e = (r, f, same_inside (at X i) r (twice _ e))
-    by None f e = cc
+    by : (o : Option Range) → f X i ≡ o → changes_nothing (step_to X i o).0 ≡ true → Kept f X i
+    by (Some r) h e = (r, h, same_inside (at X i) r (twice _ e))
+    by None h e = cc
 
--- ---- runs under m' that keep a box X which rests under m
+-- what holds at every node holds at every place of the lists
+by_nodes : (P : Range → Range → Type 0) (X B : Box) → length X ≡ length B → P nothing nothing → ((i : ℕ) → HasNode X i → P (at X i) (at B i)) → (k : ℕ) → P (get_or X k nothing) (get_or B k nothing)
+by_nodes P X B long past h k = go (dec_le (suc k) (length X))
+  where
+    go : Dec (suc k ≤ length X) → P (get_or X k nothing) (get_or B k nothing)
+    go (yes p) = let e : suc k - 1 ≡ k = omega arith in subst (λ j. P (get_or X j nothing) (get_or B j nothing)) e (h (suc k) (omega arith, omega arith))
+    go (no p) = rw (get_or_past X k nothing (omega arith), get_or_past B k nothing (omega arith)) past
 
-module _ (m m' : Meaning) (same : Same m m') (lawful : Lawful m) (X : Box) (fit : length X ≡ m.size) (tidy : Tidy X) (still : Rests m X) where
-  row_keeps : (B : Box) (i : ℕ) → X ⊑ B → IsIn B i → (r : Range) × (narrowed m' B i ≡ Some r) × (at X i ⊆ r)
-  row_keeps B i h n =
-      let k = step_kept m X i (every_passes (λ i. rests (row_step m X i)) (length X) still i n.0 (omega (arith, h.long))) in
-      let s = row_mono m m' same lawful X B i k.0 tidy h (omega (arith, h.long)) k.1 in
-      (s.0, s.1, ⊆-trans k.2 s.2)
+-- a box at rest is in order
+rest_tidy : (f : Contractor) → Shrinks f → (X : Box) → Rests f X → Tidy X
+rest_tidy f shrinks X still = by_nodes (λ r s. Ordered r) X X refl (omega (arith, ints)) (λ i p. let k = rest_kept f X still i p in let s = shrinks X i k.0 k.1 in let o = s.0 in let l = s.1 in omega (arith, ints))
 
-  move_keeps : {B C : Box} {bs : List Bound} → X ⊑ B → Meets X bs → Move m' B C bs → X ⊑ C
-  move_keeps h a stays = h
-  move_keeps h a (row {B = B} {i = i} {r = r} n e) =
-      let k = row_keeps B i h n in
-      let f = k.1 in
-      let s : k.0 ≡ r = cc in
-      set_above X B (i - 1) r h (subst (λ x. at X i ⊆ x) s k.2)
-  move_keeps h a (read {B = B} {i = i} {s = s} {r = r} n e) = set_above X B (i - 1) r h ((shared_is (at B i) s r e).all (at X i) (tidy (i - 1)) (h.each (i - 1)) (a _ here))
-  move_keeps h a (then {bs = bs} {ds = ds} j k) = move_keeps (move_keeps h (λ b x. a b (among_left ds x)) j) (λ b x. a b (among_right bs x)) k
+-- ---- runs under g keep a box X that rests under f
 
-  abbrev Held : Sweep → Type 0
-  Held (swept n C) = X ⊑ C
-  Held (stopped i) = ⊥
+module _ (f g : Contractor) (shrinks : Shrinks f) (monotone : Monotone f g) (X : Box) (still : Rests f X) where
+  tidy : Tidy X
+  tidy = rest_tidy f shrinks X still
 
-  sweep_keeps : (B : Box) → X ⊑ B → (k : ℕ) → k ≤ length B → Held (sweep m' B k)
-  sweep_keeps B h zero p = h
-  sweep_keeps B h (suc k) p = next (sweep m' B k) (sweep_keeps B h k (omega arith))
-    where
-      next : (w : Sweep) → Held w → Held (sweep_next m' (suc k) w)
-      next (swept n C) g = let x = row_keeps C (suc k) g (omega arith, omega (arith, h.long, g.long)) in subst (λ o. Held (sweep_on n (take C (suc k) o))) (sym x.1) (set_above X C (suc k - 1) x.0 g x.2)
-      next (stopped i) g = g
+  abbrev Within : Bound → Type 0
+  Within b = at X b.node ⊆ b.span
 
-  call_calm : (B : Box) → X ⊑ B → (c : Ask) → Calm c (outcome m' B c).answer
-  call_calm B h (row_step_at i) = λ j. by j (is_node (length B) i) refl (narrowed m' B i) refl
-    where
-      by : (j : ℕ) (t : Bool) → is_node (length B) i ≡ t → (o : Option Range) → narrowed m' B i ≡ o → (cond t (step_outcome B (take B i o)) (refuses B (Node i))).answer ≡ Err (Conflict j) → ⊥
-      by j true e (Some r) g f = let z : ◌≡◌ {A = ℕ} 0 1 = cc in omega arith
-      by j true e None g f = let k = (row_keeps B i h (is_in B i e)).1 in let z : ◌≡◌ {A = ℕ} 0 1 = cc in omega arith
-      by j false e o g f = let z : ◌≡◌ {A = ℕ} 0 1 = cc in omega arith
-  call_calm B h round = λ j. by j (sweep m' B (length B)) (sweep_keeps B h (length B) (omega arith))
-    where
-      by : (j : ℕ) (w : Sweep) → Held w → (sweep_outcome B w).answer ≡ Err (Conflict j) → ⊥
-      by j (swept n C) g f = let z : ◌≡◌ {A = ℕ} 0 1 = cc in omega arith
-      by j (stopped i) g f = g
-  call_calm B h (reading_at i l u) = tt
-  call_calm B h (readings rs) = tt
-  call_calm B h rest = tt
-  call_calm B h (ends_at i) = tt
+  steps : (B : Box) (i : ℕ) → X ⊑ B → HasNode B i → (r : Range) × (g B i ≡ Some r) × (X ⊑ set B (i - 1) r)
+  steps B i h n =
+      let n' : HasNode X i = (n.0, omega (arith, h.long, n.1)) in
+      let k = rest_kept f X still i n' in
+      let s = monotone X B i k.0 tidy h n' k.1 in
+      (s.0, s.1, set_above X B (i - 1) s.0 h (⊆-trans k.2 s.2))
 
-  run_calm : (B : Box) → X ⊑ B → (cs : List Ask) → Meets X (accepted m' B cs) → NoConflict m' B cs
-  run_calm B h [] a = tt
-  run_calm B h (c ∷ cs) a = (
-    call_calm B h c,
-    run_calm (outcome m' B c).box (move_keeps h (λ b x. a b (among_left _ x)) (call_moves m' B c)) cs (λ b x. a b (among_right (accepted_one m' B c) x)),
-  )
+  reads : (B : Box) (i : ℕ) (s r : Range) → X ⊑ B → HasNode B i → Within (record { node = i; span = s }) → shared (at B i) s ≡ Some r → X ⊑ set B (i - 1) r
+  reads B i s r h n a e = set_above X B (i - 1) r h ((shared_is (at B i) s r e).all (at X i) (tidy (i - 1)) (h.each (i - 1)) a)
 
-  run_keeps : (B : Box) → X ⊑ B → (cs : List Ask) → Meets X (accepted m' B cs) → X ⊑ after m' B cs
-  run_keeps B h cs a = move_keeps h a (run_moves m' B cs)
+  pub rest_stays : (B : Box) → X ⊑ B → (cs : List Ask) → Meets X (accepted g B cs) → X ⊑ after g B cs
+  rest_stays = run_keeps g (λ B. X ⊑ B) Within steps reads
+
+  pub rest_calms : (B : Box) → X ⊑ B → (cs : List Ask) → Meets X (accepted g B cs) → NoConflict g B cs
+  rest_calms = run_calm g (λ B. X ⊑ B) Within steps reads
 
 -- ---- two runs from one box
 
-module _ (m m' : Meaning) (same : Same m m') (lawful : Lawful m) (S : Box) (fit : length S ≡ m.size) (tidy : Tidy S) (cs ds : List Ask) (all : (b : Bound) → Among b (accepted m' S ds) → Among b (accepted m S cs)) (still : Rests m (after m S cs)) where
-  rest_in : after m S cs ⊑ after m' S ds
-  rest_in = let x = run_moves m S cs in let y = move_shrinks tidy x in run_keeps m m' same lawful (after m S cs) (move_long x ∙ fit) y.1 still S y.0 ds (λ b a. move_meets tidy x b (all b a))
+module _ (f g : Contractor) (shrinks : Shrinks f) (monotone : Monotone f g) (S : Box) (tidy : Tidy S) (cs ds : List Ask) (all : (b : Bound) → Among b (accepted g S ds) → Among b (accepted f S cs)) (still : Rests f (after f S cs)) where
+  meets : Meets (after f S cs) (accepted g S ds)
+  meets b a = move_meets shrinks tidy (run_moves f S cs) b (all b a)
 
-  pub rest_calm : NoConflict m' S ds
-  rest_calm = let x = run_moves m S cs in let y = move_shrinks tidy x in run_calm m m' same lawful (after m S cs) (move_long x ∙ fit) y.1 still S y.0 ds (λ b a. move_meets tidy x b (all b a))
+  pub rest_in : after f S cs ⊑ after g S ds
+  rest_in = rest_stays f g shrinks monotone (after f S cs) still S (move_shrinks shrinks tidy (run_moves f S cs)).0 ds meets
 
-pub one_rest : (m m' : Meaning) → Same m m' → Lawful m → (S : Box) → length S ≡ m.size → Tidy S → (cs ds : List Ask) → SameSet (accepted m S cs) (accepted m' S ds) → Rests m (after m S cs) → Rests m' (after m' S ds) → after m S cs ≡ after m' S ds
-one_rest m m' same lawful S fit tidy cs ds sets p q = ⊑-antisym
-    (rest_in m m' same lawful S fit tidy cs ds sets.1 p)
-    (rest_in m' m (same_back m m' same) (same_lawful m m' same lawful) S (fit ∙ same.sizes) tidy ds cs sets.0 q)
+  pub rest_calm : NoConflict g S ds
+  rest_calm = rest_calms f g shrinks monotone (after f S cs) still S (move_shrinks shrinks tidy (run_moves f S cs)).0 ds meets
+
+pub one_rest : (f g : Contractor) → Shrinks f → Shrinks g → Monotone f g → Monotone g f → (S : Box) → Tidy S → (cs ds : List Ask) → SameSet (accepted f S cs) (accepted g S ds) → Rests f (after f S cs) → Rests g (after g S ds) → after f S cs ≡ after g S ds
+one_rest f g s s' up down S tidy cs ds sets p q = ⊑-antisym (rest_in f g s up S tidy cs ds sets.1 p) (rest_in g f s' down S tidy ds cs sets.0 q)
+
+-- ---- the largest box at rest
+
+lies_below : (X B : Box) → LiesIn X B → X ⊑ B
+lies_below X B h = record { long = h.nodes; each = by_nodes (λ r s. r ⊆ s) X B h.nodes (⊆-refl nothing) h.inside }
+
+below_lies : (X B : Box) → X ⊑ B → LiesIn X B
+below_lies X B h = record { nodes = h.long; inside = λ i p. h.each (i - 1) }
+
+module _ (f : Contractor) (shrinks : Shrinks f) (monotone : Monotone f f) (S : Box) (tidy : Tidy S) (cs : List Ask) where
+  pub holds_every_rest : (X : Box) → RestsIn f S (accepted f S cs) X → LiesIn X (after f S cs)
+  holds_every_rest X r = below_lies X (after f S cs) (rest_stays f f shrinks monotone X r.rests S (lies_below X S r.starts) cs r.reads)
+
+  pub largest_at_rest : Rests f (after f S cs) → IsLargestAtRest f S (accepted f S cs) (after f S cs)
+  largest_at_rest still =
+      let x = run_moves f S cs in
+      record {
+        is_one = record { starts = below_lies (after f S cs) S (move_shrinks shrinks tidy x).0; reads = move_meets shrinks tidy x; rests = still };
+        holds_others = holds_every_rest;
+      }

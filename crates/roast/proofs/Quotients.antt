@@ -1,6 +1,5 @@
 -- The laws of the rounded quotient and of the common part, and what follows from them.
-use Rattle.std.proofs.Common.{◌≡◌, Bool, true, false, cond, T, ◌⊎◌, ◌↔◌, ℤ, pos, ◌*ℤ◌, neg_ℤ, ◌≤ℤ◌, ◌<ℤ◌, Some, None, Option, sym, refl, ◌∙◌, subst, inl, inr, ⊎_elim, arith}
-use lib.IntN.{*ℤ_comm, zero-*ℤ, neg_ℤ-neg_ℤ}
+use Rattle.std.proofs.Common.{◌≡◌, ◌≢◌, Bool, true, false, cond, T, ◌⊎◌, ◌↔◌, ℤ, pos, ◌*ℤ◌, ◌≤ℤ◌, ◌<ℤ◌, Some, None, Option, sym, refl, ◌∙◌, subst, inl, inr, arith}
 use lib.Signed.{le_z, lt_z, ≤ℤ_refl}
 use borrow.Author.Differences.{ints}
 use Rattle.std.specs.Int.{int_min, int_max}
@@ -8,106 +7,12 @@ use Rattle.std.proofs.lemmas.Int.{clamps}
 use Rattle.std.proofs.lemmas.Bool.{true≢false}
 use Rattle.balance.specs.declared.range.Range.{Range}
 use Rattle.balance.specs.Ranges.{range, Ordered, Inside, ◌⊆◌}
-use Rattle.balance.proofs.Integers.{between_low, between_high}
-use Rattle.roast.specs.Rounding.{holds_zero, floor, ceiling, negated, quotient_above, quotient, AtMost, AtLeast, RoundedOutward, shared, CommonPart}
-use Rattle.roast.proofs.Numbers.{≤_trans, either_sign, falls_left, times_neg, neg_times, grows, grows_left, cancels, floor_is}
+use Rattle.balance.proofs.Integers.{times_swap}
+use Rattle.roast.specs.Rounding.{holds_zero, floor, ceiling, lowering_end, raising_end, quotient, AtMost, AtLeast, RoundedOutward, shared, CommonPart}
+use Rattle.balance.proofs.Integers.{grows, falls, grows_left, falls_left}
+use Rattle.roast.proofs.Numbers.{≤_trans, above_test, cancels, cancels_below, floor_is, ceiling_is}
 
--- ---- by a range above 0
-
--- z ≤ n / a for n at least l, if z ≤ l / a at both ends of a's range
-below_all : (z l u n c d : ℤ) → Inside n (range l u) → (a : ℤ) → Inside a (range c d) → (z *ℤ c) ≤ℤ l → (z *ℤ d) ≤ℤ l → (z *ℤ a) ≤ℤ n
-below_all z l u n c d h a k p q = ≤_trans _ _ _ (subst (λ t. t ≤ℤ l) (*ℤ_comm a z) (between_high l c d a z k.0 k.1 (subst (λ t. t ≤ℤ l) (*ℤ_comm z c) p) (subst (λ t. t ≤ℤ l) (*ℤ_comm z d) q))) h.0
-
-above_all : (z l u n c d : ℤ) → Inside n (range l u) → (a : ℤ) → Inside a (range c d) → u ≤ℤ (z *ℤ c) → u ≤ℤ (z *ℤ d) → n ≤ℤ (z *ℤ a)
-above_all z l u n c d h a k p q = ≤_trans _ _ _ h.1 (subst (λ t. u ≤ℤ t) (*ℤ_comm a z) (between_low u c d a z k.0 k.1 (subst (λ t. u ≤ℤ t) (*ℤ_comm z c) p) (subst (λ t. u ≤ℤ t) (*ℤ_comm z d) q)))
-
--- by u where M is at least 0, by l where it is at most 0
-pick_low : (M z l u : ℤ) (b : Bool) → (b ≡ true → pos 0 ≤ℤ M) → (b ≡ false → M ≤ℤ pos 0) → pos 0 <ℤ l → l ≤ℤ u → (z ≤ℤ floor M (cond b u l)) ↔ (((z *ℤ l) ≤ℤ M) × ((z *ℤ u) ≤ℤ M))
-pick_low M z l u true t f s o =
-    let g = floor_is z M u (omega (arith, ints)) in
-    let m = t refl in (
-      λ h. let k = g.0 h in (
-        ⊎_elim
-            (λ p. ≤_trans (z *ℤ l) (z *ℤ u) M (grows_left l u z p o) k)
-            (λ p. ≤_trans (z *ℤ l) (pos 0) M (subst (λ t. (z *ℤ l) ≤ℤ t) (zero-*ℤ l) (grows z (pos 0) l (omega (arith, ints)) p)) m)
-            (either_sign z),
-        k,
-      ),
-      λ h. g.1 h.1,
-    )
-pick_low M z l u false t f s o =
-    let g = floor_is z M l s in
-    let m = f refl in (
-      λ h. let k = g.0 h in
-          let below = cancels z (pos 0) l s (subst (λ t. (z *ℤ l) ≤ℤ t) (sym (zero-*ℤ l)) (≤_trans (z *ℤ l) M (pos 0) k m)) in
-          (k, ≤_trans (z *ℤ u) (z *ℤ l) M (falls_left l u z below o) k),
-      λ h. g.1 h.0,
-    )
-
--- the mirror image
-pick_high : (M z l u : ℤ) (b : Bool) → (b ≡ true → pos 0 ≤ℤ M) → (b ≡ false → M ≤ℤ pos 0) → pos 0 <ℤ l → l ≤ℤ u → (ceiling M (cond b l u) ≤ℤ z) ↔ ((M ≤ℤ (z *ℤ l)) × (M ≤ℤ (z *ℤ u)))
-pick_high M z l u b t f s o = by b t f
-  where
-    turned : (x y : ℤ) → ((neg_ℤ z *ℤ x) ≤ℤ neg_ℤ y) ↔ (y ≤ℤ (z *ℤ x))
-    turned x y = (λ h. let k = simp neg_times at h in omega (arith, ints), λ h. simp neg_times (omega (arith, ints)))
-
-    mirrored : (e : ℤ) → (neg_ℤ z ≤ℤ floor (neg_ℤ M) e) ↔ (((neg_ℤ z *ℤ l) ≤ℤ neg_ℤ M) × ((neg_ℤ z *ℤ u) ≤ℤ neg_ℤ M)) → (ceiling M e ≤ℤ z) ↔ ((M ≤ℤ (z *ℤ l)) × (M ≤ℤ (z *ℤ u)))
-    mirrored e p = (λ h. let k = p.0 (omega (arith, ints)) in ((turned l M).0 k.0, (turned u M).0 k.1), λ h. let k = p.1 ((turned l M).1 h.0, (turned u M).1 h.1) in omega (arith, ints))
-
-    by : (b : Bool) → (b ≡ true → pos 0 ≤ℤ M) → (b ≡ false → M ≤ℤ pos 0) → (ceiling M (cond b l u) ≤ℤ z) ↔ ((M ≤ℤ (z *ℤ l)) × (M ≤ℤ (z *ℤ u)))
-    by true t f = let m = t refl in mirrored l (pick_low (neg_ℤ M) (neg_ℤ z) l u false (λ e. absurd (true≢false (sym e))) (λ e. omega (arith, ints)) s o)
-    by false t f = let m = f refl in mirrored u (pick_low (neg_ℤ M) (neg_ℤ z) l u true (λ e. omega (arith, ints)) (λ e. absurd (true≢false e)) s o)
-
-sign_yes : (M : ℤ) → le_z (pos 0) M ≡ true → pos 0 ≤ℤ M
-sign_yes M e = omega (arith, ints)
-
-sign_no : (M : ℤ) → le_z (pos 0) M ≡ false → M ≤ℤ pos 0
-sign_no M e = omega (arith, ints)
-
-pub above_rounds : (m d : Range) → pos 0 <ℤ d.lower → Ordered m → Ordered d → RoundedOutward m d (quotient_above m d)
-above_rounds m d s o o' = record {
-  lower_end = λ z. let p = pick_low m.lower z d.lower d.upper (le_z (pos 0) m.lower) (sign_yes m.lower) (sign_no m.lower) s o' in (
-    λ h n a i j. let k = p.0 h in (λ t. below_all z m.lower m.upper n d.lower d.upper i a j k.0 k.1, λ t. let w = j.0 in absurd (omega (arith, ints))),
-    λ h. p.1 ((h m.lower d.lower (≤ℤ_refl m.lower, o) (≤ℤ_refl d.lower, o')).0 s, (h m.lower d.upper (≤ℤ_refl m.lower, o) (o', ≤ℤ_refl d.upper)).0 (omega (arith, ints))),
-  );
-  upper_end = λ z. let p = pick_high m.upper z d.lower d.upper (le_z (pos 0) m.upper) (sign_yes m.upper) (sign_no m.upper) s o' in (
-    λ h n a i j. let k = p.0 h in (λ t. above_all z m.lower m.upper n d.lower d.upper i a j k.0 k.1, λ t. let w = j.0 in absurd (omega (arith, ints))),
-    λ h. p.1 ((h m.upper d.lower (o, ≤ℤ_refl m.upper) (≤ℤ_refl d.lower, o')).0 s, (h m.upper d.upper (o, ≤ℤ_refl m.upper) (o', ≤ℤ_refl d.upper)).0 (omega (arith, ints))),
-  );
-}
-
--- ---- by a range below 0
-
-inside_negated : (n : ℤ) (m : Range) → Inside n m → Inside (neg_ℤ n) (negated m)
-inside_negated n m h = let l = h.0 in let u = h.1 in (omega (arith, ints), omega (arith, ints))
-
-at_most_negated : (z n a : ℤ) → AtMost z (neg_ℤ n) (neg_ℤ a) → AtMost z n a
-at_most_negated z n a h = (λ s. let k = rw (times_neg z a) at (h.1 (omega (arith, ints))) in omega (arith, ints), λ s. let k = rw (times_neg z a) at (h.0 (omega (arith, ints))) in omega (arith, ints))
-
-at_least_negated : (z n a : ℤ) → AtLeast z (neg_ℤ n) (neg_ℤ a) → AtLeast z n a
-at_least_negated z n a h = (λ s. let k = rw (times_neg z a) at (h.1 (omega (arith, ints))) in omega (arith, ints), λ s. let k = rw (times_neg z a) at (h.0 (omega (arith, ints))) in omega (arith, ints))
-
--- a statement about every quotient of m by d is one about every quotient of the negated ranges
-module _ (m d : Range) (P : ℤ → ℤ → Type 0) (turn : (n a : ℤ) → P (neg_ℤ n) (neg_ℤ a) → P n a) where
-  to_negated : ((n a : ℤ) → Inside n m → Inside a d → P n a) → (n a : ℤ) → Inside n (negated m) → Inside a (negated d) → P n a
-  to_negated h n a i j =
-      let i₀ = i.0 in let i₁ = i.1 in let j₀ = j.0 in let j₁ = j.1 in
-      turn n a (h (neg_ℤ n) (neg_ℤ a) (omega (arith, ints), omega (arith, ints)) (omega (arith, ints), omega (arith, ints)))
-
-  from_negated : ((n a : ℤ) → Inside n (negated m) → Inside a (negated d) → P n a) → (n a : ℤ) → Inside n m → Inside a d → P n a
-  from_negated h n a i j = turn n a (h (neg_ℤ n) (neg_ℤ a) (inside_negated n m i) (inside_negated a d j))
-
-pub negated_rounds : (m d q : Range) → RoundedOutward (negated m) (negated d) q → RoundedOutward m d q
-negated_rounds m d q r = record {
-  lower_end = λ z. (λ h. from_negated m d (AtMost z) (at_most_negated z) ((r.lower_end z).0 h), λ h. (r.lower_end z).1 (to_negated m d (AtMost z) (at_most_negated z) h));
-  upper_end = λ z. (λ h. from_negated m d (AtLeast z) (at_least_negated z) ((r.upper_end z).0 h), λ h. (r.upper_end z).1 (to_negated m d (AtLeast z) (at_least_negated z) h));
-}
-
-pub rounds_negated : (m d q : Range) → RoundedOutward m d q → RoundedOutward (negated m) (negated d) q
-rounds_negated m d q r = negated_rounds (negated m) (negated d) q (subst (λ e. RoundedOutward (negated (negated m)) e q) (sym (back d)) (subst (λ e. RoundedOutward e d q) (sym (back m)) r))
-  where
-    back : (a : Range) → negated (negated a) ≡ a
-    back a = λ i. range (neg_ℤ-neg_ℤ a.lower i) (neg_ℤ-neg_ℤ a.upper i)
+-- ---- a range that does not hold 0
 
 -- a range that does not hold 0 lies above it or below it
 pub sign_of : (d : Range) → holds_zero d ≡ false → Ordered d → (pos 0 <ℤ d.lower) ⊎ (d.upper <ℤ pos 0)
@@ -118,20 +23,89 @@ sign_of d e o = by (le_z d.lower (pos 0)) (le_z (pos 0) d.upper) refl refl e
     by true false p q h = inr (omega (arith, ints))
     by false t p q h = inl (omega (arith, ints))
 
-pub above_test : (z : ℤ) → pos 0 <ℤ z → lt_z (pos 0) z ≡ true
-above_test z h = grind (arith, ints)
+not_zero : (d : Range) → holds_zero d ≡ false → (a : ℤ) → Inside a d → a ≢ pos 0
+not_zero d e a i = grind (arith, ints)
 
-pub below_test : (z : ℤ) → z ≤ℤ pos 0 → lt_z (pos 0) z ≡ false
-below_test z h = grind (arith, ints)
+-- all its numbers have one sign
+one_sign : (d : Range) → holds_zero d ≡ false → (e a : ℤ) → Inside e d → Inside a d → (pos 0 <ℤ a → pos 0 <ℤ e) × (a <ℤ pos 0 → e <ℤ pos 0)
+one_sign d h e a i j = (λ s. grind (arith, ints), λ s. grind (arith, ints))
 
-pub not_zero : (d : Range) → d.lower ≤ℤ pos 0 → holds_zero d ≡ false → d.upper <ℤ pos 0
-not_zero d h e = grind (arith, ints)
+-- ---- the end of the divisor
+
+lowering : (m : ℤ) (d : Range) → Ordered d → Inside (lowering_end m d) d × ((a : ℤ) → Inside a d → (m *ℤ a) ≤ℤ (m *ℤ lowering_end m d))
+lowering m d o = by (le_z (pos 0) m) refl
+  where
+    by : (t : Bool) → le_z (pos 0) m ≡ t → Inside (cond t d.upper d.lower) d × ((a : ℤ) → Inside a d → (m *ℤ a) ≤ℤ (m *ℤ cond t d.upper d.lower))
+    by true e = ((o, ≤ℤ_refl d.upper), λ a i. grows_left a d.upper m (omega (arith, ints)) i.1)
+    by false e = ((≤ℤ_refl d.lower, o), λ a i. falls_left d.lower a m (omega (arith, ints)) i.0)
+
+raising : (m : ℤ) (d : Range) → Ordered d → Inside (raising_end m d) d × ((a : ℤ) → Inside a d → (m *ℤ raising_end m d) ≤ℤ (m *ℤ a))
+raising m d o = by (le_z (pos 0) m) refl
+  where
+    by : (t : Bool) → le_z (pos 0) m ≡ t → Inside (cond t d.lower d.upper) d × ((a : ℤ) → Inside a d → (m *ℤ cond t d.lower d.upper) ≤ℤ (m *ℤ a))
+    by true e = ((≤ℤ_refl d.lower, o), λ a i. grows_left d.lower a m (omega (arith, ints)) i.0)
+    by false e = ((o, ≤ℤ_refl d.upper), λ a i. falls_left a d.upper m (omega (arith, ints)) i.1)
+
+-- ---- the ends of the quotient
+
+-- from one divisor e to another of its sign, a
+module _ (z m e a : ℤ) (sign : (pos 0 <ℤ a → pos 0 <ℤ e) × (a <ℤ pos 0 → e <ℤ pos 0)) where
+  at_most_by : (m *ℤ a) ≤ℤ (m *ℤ e) → AtMost z m e → AtMost z m a
+  at_most_by h k = (
+    λ s. cancels (z *ℤ a) m e (sign.0 s) (≤_trans _ _ _ (rw (times_swap z a e) (grows (z *ℤ e) m a (omega (arith, ints)) (k.0 (sign.0 s)))) h),
+    λ s. cancels_below m (z *ℤ a) e (sign.1 s) (≤_trans _ _ _ (rw (times_swap z a e) (falls m (z *ℤ e) a (omega (arith, ints)) (k.1 (sign.1 s)))) h),
+  )
+
+  at_least_by : (m *ℤ e) ≤ℤ (m *ℤ a) → AtLeast z m e → AtLeast z m a
+  at_least_by h k = (
+    λ s. cancels m (z *ℤ a) e (sign.0 s) (≤_trans _ _ _ h (rw (times_swap z a e) (grows m (z *ℤ e) a (omega (arith, ints)) (k.0 (sign.0 s))))),
+    λ s. cancels_below (z *ℤ a) m e (sign.1 s) (≤_trans _ _ _ h (rw (times_swap z a e) (falls (z *ℤ e) m a (omega (arith, ints)) (k.1 (sign.1 s))))),
+  )
+
+module _ (m d : Range) (h : holds_zero d ≡ false) (o : Ordered d) (n : ℤ) (end : Inside n m) where
+  -- by the numerator n that makes the lowest quotients
+  lowest : ((k a : ℤ) → Inside k m → Inside a d → (pos 0 <ℤ a → n ≤ℤ k) × (a <ℤ pos 0 → k ≤ℤ n)) → (z : ℤ) → (z ≤ℤ floor n (lowering_end n d)) ↔ ((k a : ℤ) → Inside k m → Inside a d → AtMost z k a)
+  lowest side z =
+      let e = lowering_end n d in
+      let w = lowering n d o in
+      let p = floor_is z n e (not_zero d h e w.0) in (
+        λ q k a i j. let t = at_most_by z n e a (one_sign d h e a w.0 j) (w.1 a j) (p.0 q) in let s = side k a i j in (λ g. ≤_trans _ _ _ (t.0 g) (s.0 g), λ g. ≤_trans _ _ _ (s.1 g) (t.1 g)),
+        λ q. p.1 (q n e end w.0),
+      )
+
+  highest : ((k a : ℤ) → Inside k m → Inside a d → (pos 0 <ℤ a → k ≤ℤ n) × (a <ℤ pos 0 → n ≤ℤ k)) → (z : ℤ) → (ceiling n (raising_end n d) ≤ℤ z) ↔ ((k a : ℤ) → Inside k m → Inside a d → AtLeast z k a)
+  highest side z =
+      let e = raising_end n d in
+      let w = raising n d o in
+      let p = ceiling_is z n e (not_zero d h e w.0) in (
+        λ q k a i j. let t = at_least_by z n e a (one_sign d h e a w.0 j) (w.1 a j) (p.0 q) in let s = side k a i j in (λ g. ≤_trans _ _ _ (s.0 g) (t.0 g), λ g. ≤_trans _ _ _ (t.1 g) (s.1 g)),
+        λ q. p.1 (q n e end w.0),
+      )
 
 pub quotient_rounds : (m d : Range) → holds_zero d ≡ false → Ordered m → Ordered d → RoundedOutward m d (quotient m d)
-quotient_rounds m d e o o' = ⊎_elim
-    (λ s. let t = above_test d.lower s in rw t (above_rounds m d s o o'))
-    (λ s. let t = below_test d.lower (omega (arith, ints)) in rw t (negated_rounds m d _ (above_rounds (negated m) (negated d) (omega (arith, ints)) (omega (arith, ints)) (omega (arith, ints)))))
-    (sign_of d e o')
+quotient_rounds m d h o o' = by (lt_z (pos 0) d.lower) refl
+  where
+    first : Inside m.lower m
+    first = (≤ℤ_refl m.lower, o)
+
+    last : Inside m.upper m
+    last = (o, ≤ℤ_refl m.upper)
+
+    by : (t : Bool) → lt_z (pos 0) d.lower ≡ t → RoundedOutward m d (cond t (range (floor m.lower (lowering_end m.lower d)) (ceiling m.upper (raising_end m.upper d))) (range (floor m.upper (lowering_end m.upper d)) (ceiling m.lower (raising_end m.lower d))))
+    by true e = record {
+      lower_end = lowest m d h o' m.lower first (λ k a i j. (λ s. i.0, λ s. let q = j.0 in absurd (omega (arith, ints))));
+      upper_end = highest m d h o' m.upper last (λ k a i j. (λ s. i.1, λ s. let q = j.0 in absurd (omega (arith, ints))));
+    }
+    by false e = record {
+      lower_end = lowest m d h o' m.upper last (λ k a i j. (λ s. absurd (above a j s), λ s. i.1));
+      upper_end = highest m d h o' m.lower first (λ k a i j. (λ s. absurd (above a j s), λ s. i.0));
+    }
+      where
+        above : (a : ℤ) → Inside a d → pos 0 <ℤ a → ⊥
+        above a j s = let q = (one_sign d h d.lower a (≤ℤ_refl d.lower, o') j).0 s in true≢false (sym (above_test d.lower q) ∙ e)
+
+pub rounds : (m d q : Range) → q ≡ quotient m d → holds_zero d ≡ false → Ordered m → Ordered d → RoundedOutward m d q
+rounds m d q e h o o' = subst (RoundedOutward m d) (sym e) (quotient_rounds m d h o o')
 
 -- ---- what follows for ranges within ranges
 

@@ -3,19 +3,20 @@ use Rattle.std.proofs.Common.{◌≡◌, ℕ, zero, suc, ◌-◌, ◌≤◌, tru
 use native.Mathlib.Decide.{ℕ_discrete}
 use borrow.Author.Differences.{ints}
 use Rattle.std.proofs.lemmas.Bool.{eq-eqb, ne_eqb}
+use Rattle.std.proofs.lemmas.List.{length-set}
 use Rattle.balance.specs.declared.range.Range.{Range}
 use Rattle.balance.specs.Ranges.{◌⊆◌, plus, minus, times, total}
 use Rattle.balance.specs.Meanings.{Meaning, IsNode, Lawful, coefficient_range, right_side_range}
 use Rattle.balance.specs.Members.{Fraction, Member, Point, component, sum, Solves, ◌∈◌, ◌⊗◌}
-use Rattle.balance.specs.Rows.{at}
-use Rattle.balance.proofs.Points.{picked_in}
-use Rattle.roast.specs.Rounding.{holds_zero, quotient}
-use Rattle.roast.specs.Narrowing.{Box, row_answers, numerator, narrowed}
+use Rattle.balance.proofs.PlaceLaws.{picked_in}
+use Rattle.roast.specs.Rounding.{holds_zero, quotient, shared}
+use Rattle.roast.specs.Narrowing.{Box, at, HasNode, row_answers, numerator, narrowed}
 use Rattle.roast.specs.Machine.{Ask, after}
-use Rattle.roast.specs.Runs.{Bound, accepted, here, InAll, Holds}
+use Rattle.roast.specs.Runs.{Bound, accepted, InAll, Holds, CanBeSolved, NoConflict}
 use Rattle.roast.proofs.Fractions.{in_wider, in_like, in_left, in_right, in_total, in_times, in_quotient, in_shared}
-use Rattle.roast.proofs.Boxes.{nothing, each_set, coefficient_ordered, numerator_ordered, opened, opens}
-use Rattle.roast.proofs.Moves.{Move, stays, row, read, then, move_long, run_moves, among_left, among_right}
+use Rattle.roast.proofs.Boxes.{nothing, each_set, coefficient_ordered, numerator_ordered, opens}
+use Rattle.roast.proofs.Solvable.{able_answers, able_apart}
+use Rattle.roast.proofs.Calm.{run_keeps, run_calm}
 
 -- ---- one term of a sum, from the sum and the ranges of the others
 
@@ -79,20 +80,34 @@ module _ (m : Meaning) (lawful : Lawful m) (s : Member m) (x : Point) (solves : 
       (λ p. let e : i ≡ suc (i - 1) = omega arith in subst (λ a. component x a ∈ r) e k)
       (j - 1) (omega arith))
 
-  move_holds : {B C : Box} {bs : List Bound} → length B ≡ m.size → Holds m B x → InAll x bs → Move m B C bs → Holds m C x
-  move_holds fit h a stays = h
-  move_holds fit h a (row {B = B} {i = i} {r = r} n e) =
-      let o = opened m B i r e in
-      let k = row_holds B i (omega arith) h o.answers o.apart in
-      let f = k.1 in
-      let g : k.0 ≡ r = cc in
-      set_holds B i r n.0 h (subst (λ y. component x i ∈ y) g k.2)
-  move_holds fit h a (read {B = B} {i = i} {s = t} {r = r} n e) =
-      let k = in_shared (component x i) (at B i) t (h i (omega arith)) (a _ here) in
-      let f = k.1 in
-      let g : k.0 ≡ r = cc in
-      set_holds B i r n.0 h (subst (λ y. component x i ∈ y) g k.2)
-  move_holds fit h a (then {bs = bs} {ds = ds} j k) = move_holds (move_long j ∙ fit) (move_holds fit h (λ b y. a b (among_left ds y)) j) (λ b y. a b (among_right bs y)) k
+  -- ---- runs on a system that can be solved
 
-  pub run_holds : (B : Box) → length B ≡ m.size → Holds m B x → (cs : List Ask) → InAll x (accepted m B cs) → Holds m (after m B cs) x
-  run_holds B fit h cs a = move_holds fit h a (run_moves m B cs)
+  module _ (able : CanBeSolved m) where
+    -- a box for the nodes of the system that holds the solution
+    record HoldsIt (B : Box) : Type 0 where
+      pub fit : length B ≡ m.size
+      pub holds : Holds m B x
+
+    abbrev Within : Bound → Type 0
+    Within b = component x b.node ∈ b.span
+
+    steps : (B : Box) (i : ℕ) → HoldsIt B → HasNode B i → (r : Range) × (narrowed m B i ≡ Some r) × HoldsIt (set B (i - 1) r)
+    steps B i h n =
+        let node : IsNode m i = (n.0, omega (arith, n.1, h.fit)) in
+        let k = row_holds B i node h.holds (able_answers m able B i h.fit node) (able_apart m able i node) in
+        (k.0, k.1, record { fit = length-set B (i - 1) k.0 ∙ h.fit; holds = set_holds B i k.0 n.0 h.holds k.2 })
+
+    reads : (B : Box) (i : ℕ) (s r : Range) → HoldsIt B → HasNode B i → Within (record { node = i; span = s }) → shared (at B i) s ≡ Some r → HoldsIt (set B (i - 1) r)
+    reads B i t r h n a e =
+        let node : IsNode m i = (n.0, omega (arith, n.1, h.fit)) in
+        let k = in_shared (component x i) (at B i) t (h.holds i node) a in
+        let f = k.1 in
+        let g : k.0 ≡ r = cc in
+        record { fit = length-set B (i - 1) r ∙ h.fit; holds = set_holds B i r n.0 h.holds (subst (λ y. component x i ∈ y) g k.2) }
+
+    module _ (B : Box) (fit : length B ≡ m.size) (holds : Holds m B x) (cs : List Ask) (all : InAll x (accepted (narrowed m) B cs)) where
+      pub run_holds : Holds m (after (narrowed m) B cs) x
+      run_holds = (run_keeps (narrowed m) HoldsIt Within steps reads B (record { fit = fit; holds = holds }) cs all).holds
+
+      pub truth_calms : NoConflict (narrowed m) B cs
+      truth_calms = run_calm (narrowed m) HoldsIt Within steps reads B (record { fit = fit; holds = holds }) cs all

@@ -1,5 +1,5 @@
 -- Sums and largest numbers over the nodes 1 to n, and the node where a ratio is largest.
-use Rattle.std.proofs.Common.{◌≡◌, ℕ, zero, suc, ◌+◌, ◌-◌, ◌*◌, ◌<◌, ◌≤◌, max, Bool, true, false, cond, eqb, [], ◌∷◌, ◌++◌, length, get_or, All, fold, map, refl, ap, ◌∙◌, subst, ap₂, mul-le-mul_right, div-lt_iff_lt-mul, mul-le-mul_left, le_of_mul-le-mul_right, lt_of_mul-lt-mul_right, arith}
+use Rattle.std.proofs.Common.{◌≡◌, ℕ, zero, suc, ◌+◌, ◌-◌, ◌*◌, ◌<◌, ◌≤◌, max, Bool, true, false, cond, if◌then◌else◌, eqb, [], ◌∷◌, ◌++◌, length, get_or, All, fold, map, sym, refl, ap, ◌∙◌, subst, ap₂, mul-le-mul_right, div-lt_iff_lt-mul, mul-le-mul_left, le_of_mul-le-mul_right, lt_of_mul-lt-mul_right, arith}
 use native.Mathlib.Decide.{dec_le}
 use Rattle.std.proofs.Math.Nat.{max-eq_right}
 use Rattle.std.proofs.lemmas.Grind.{div_ceil_times}
@@ -139,9 +139,7 @@ module _ (f u w : ℕ → ℕ) (n i : ℕ) (most : (j : ℕ) → In n j → f j 
       le_of_mul-le-mul_right {m = f j * v} {n = r * u j} {k = u i} (omega (arith, mul-le-mul_right v (most j h), mul-le-mul_right (u j) own)) p
 
 -- one column more
-pub sum_without_more : (f : ℕ → ℕ) (i k s r : ℕ) → 1 ≤ k → s ≡ sum_without f i (k - 1) → r ≡ cond (eqb k i) 0 (f k) → s + r ≡ sum_without f i (k + 1 - 1)
-sum_without_more f i zero s r h e t = absurd (omega arith)
-sum_without_more f i (suc j) s r h e t =
-    let p : suc j - 1 ≡ j = omega arith in
-    let q : suc j + 1 - 1 ≡ suc j = omega arith in
-    rw q (ap₂ (λ a b. a + b) (e ∙ ap (sum_without f i) p) t)
+pub sum_without_more : (f : ℕ → ℕ) (i j s r : ℕ) → s ≡ sum_without f i j → r ≡ (if eqb (j + 1) i then 0 else f (j + 1)) → s + r ≡ sum_without f i (j + 1)
+sum_without_more f i j s r h e =
+    let n : j + 1 ≡ suc j = omega arith in
+    ap₂ (λ a b. a + b) h (e ∙ ap (λ m. if eqb m i then 0 else f m) n) ∙ ap (sum_without f i) (sym n)

@@ -3,9 +3,9 @@ use Rattle.std.specs.Prelude.{◌≡◌, ℕ, zero, suc, ◌+◌, ◌-◌, ◌*�
 use Rattle.balance.specs.declared.range.Range.{Range}
 use Rattle.balance.specs.declared.refusal.Refusal.{Refusal}
 use Rattle.balance.specs.declared.refusal.Refusal.TheVariants.{Certificate, Dominance, Wide}
-use Rattle.balance.specs.Ranges.{limits}
+use Rattle.balance.specs.Ranges.{limits, Ordered, Inside}
 use Rattle.balance.specs.Meanings.{Meaning, IsNode, EveryPlaceAnswers, coefficient_range, right_side_range}
-use Rattle.balance.specs.Places.{first, unless_refused, first_refusal}
+use Rattle.balance.specs.Places.{first, first_of, unless_refused, first_refusal}
 use Rattle.balance.specs.Points.{between}
 use Rattle.roast.specs.Rounding.{holds_zero}
 
@@ -16,6 +16,19 @@ magnitude a = max (unsigned_abs a.lower) (unsigned_abs a.upper)
 -- ⟨a⟩, the smallest absolute value in a range, 0 if the range holds 0
 abbrev pub mignitude : Range → ℕ
 mignitude a = cond (holds_zero a) 0 (cond (int_lt (pos 0) a.lower) (unsigned_abs a.lower) (unsigned_abs a.upper))
+
+-- The laws of both: they are the largest and the smallest absolute value of the numbers in a range.
+pub record IsLargestSize (a : Range) (n : ℕ) : Type 0 where
+  pub bounds : (p : ℤ) → Inside p a → unsigned_abs p ≤ n
+  pub is_one : (p : ℤ) × Inside p a × (unsigned_abs p ≡ n)
+
+pub record IsSmallestSize (a : Range) (n : ℕ) : Type 0 where
+  pub bounds : (p : ℤ) → Inside p a → n ≤ unsigned_abs p
+  pub is_one : (p : ℤ) × Inside p a × (unsigned_abs p ≡ n)
+
+pub record MeasuresRanges : Type 0 where
+  pub largest : (a : Range) → Ordered a → IsLargestSize a (magnitude a)
+  pub smallest : (a : Range) → Ordered a → IsSmallestSize a (mignitude a)
 
 -- u_i, number i of a list, and its size
 abbrev pub number : List ℤ → ℕ → ℤ
@@ -90,11 +103,15 @@ wide_refusal m us i = cond (nat_le (k m us i) (2 ^ 30)) None (Some (Wide i))
 -- the first box, or the refusal that comes first
 abbrev pub opening : Meaning → List ℤ → Result (List Range) Refusal
 opening m us =
-    unless_refused (first_refusal m)
-    (unless_refused (certificate_refusal m.size us)
-    (unless_refused (first (dominance_refusal m us) m.size)
-    (unless_refused (first (wide_refusal m us) m.size)
-    (Ok (first_box m us)))))
+    unless_refused
+    (first_of (
+    first_refusal m
+    ∷ certificate_refusal m.size us
+    ∷ first (dominance_refusal m us) m.size
+    ∷ first (wide_refusal m us) m.size
+    ∷ []
+    ))
+    (Ok (first_box m us))
 
 -- when an opening succeeds
 pub record Opens (m : Meaning) (us : List ℤ) : Type 0 where

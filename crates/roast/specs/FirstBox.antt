@@ -1,9 +1,9 @@
 -- How the first box is made: a row is measured or refused, then a node's range is taken from all rows or refused.
-use Rattle.std.specs.Prelude.{ℕ, ◌*◌, ◌^◌, ◌≤◌, max, List, map, ℤ, Ok, Result, fold, unsigned_abs}
+use Rattle.std.specs.Prelude.{ℕ, ◌*◌, ◌^◌, ◌≤◌, max, List, [], ◌∷◌, map, ℤ, Ok, Result, fold, unsigned_abs}
 use Rattle.balance.specs.declared.range.Range.{Range}
 use Rattle.balance.specs.declared.refusal.Refusal.{Refusal}
 use Rattle.balance.specs.Meanings.{Meaning, right_side_range}
-use Rattle.balance.specs.Places.{first, unless_refused}
+use Rattle.balance.specs.Places.{first, first_of, unless_refused}
 use Rattle.roast.specs.declared.certificate.Row.{Row}
 use Rattle.roast.specs.Certificates.{magnitude, v, rounded_up, listed, first_range, first_box, dominance_refusal, wide_refusal}
 
@@ -30,9 +30,9 @@ range_made m us i = unless_refused (wide_refusal m us i) (Ok (first_range m us i
 -- the first box, or the first refusal
 abbrev pub box_made : Meaning → List ℤ → Result (List Range) Refusal
 box_made m us =
-    unless_refused (first (dominance_refusal m us) m.size)
-    (unless_refused (first (wide_refusal m us) m.size)
-    (Ok (first_box m us)))
+    unless_refused
+    (first_of (first (dominance_refusal m us) m.size ∷ first (wide_refusal m us) m.size ∷ []))
+    (Ok (first_box m us))
 
 -- the largest number × side / margin of a list of rows, rounded up
 abbrev pub largest_end : ℕ → List Row → ℕ

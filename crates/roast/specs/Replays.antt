@@ -5,12 +5,12 @@ use Rattle.balance.specs.Meanings.{Meaning}
 use Rattle.roast.specs.declared.call.Answer.{Answer}
 use Rattle.roast.specs.declared.call.Entry.{Entry}
 use Rattle.roast.specs.Certificates.{first_box, Opens}
-use Rattle.roast.specs.Narrowing.{Box}
-use Rattle.roast.specs.Machine.{Ask, row_step_at, round, reading_at, readings, rest, ends_at, asked, Outcome, outcome}
+use Rattle.roast.specs.Narrowing.{Box, Contractor, narrowed}
+use Rattle.roast.specs.Machine.{Ask, ask_row_step, ask_round, ask_reading, ask_readings, ask_rest, ask_ends, ask_of, Outcome, outcome}
 use Rattle.roast.specs.Runs.{last_box, Dependable}
 
 abbrev pub ask : Entry → Ask
-ask e = asked e.call
+ask e = ask_of e.call
 
 -- a call and its answer
 abbrev pub shown : Entry → Ask × Option (Result Answer Refusal)
@@ -18,23 +18,23 @@ shown e = (ask e, e.answer)
 
 -- a list of readings has the machine's records once it is answered
 abbrev pub answered : Ask → Outcome → Ask
-answered (row_step_at i) o = row_step_at i
-answered round o = round
-answered (reading_at i lower upper) o = reading_at i lower upper
-answered (readings rs) o = readings o.records
-answered rest o = rest
-answered (ends_at i) o = ends_at i
+answered (ask_row_step i) o = ask_row_step i
+answered ask_round o = ask_round
+answered (ask_reading i lower upper) o = ask_reading i lower upper
+answered (ask_readings rs) o = ask_readings o.records
+answered ask_rest o = ask_rest
+answered (ask_ends i) o = ask_ends i
 
 -- each call with the answer that the machine gives it
-abbrev pub replayed : Meaning → Box → List Ask → List (Ask × Option (Result Answer Refusal))
-replayed m box [] = []
-replayed m box (c ∷ cs) = (answered c (outcome m box c), Some (outcome m box c).answer) ∷ replayed m (outcome m box c).box cs
+abbrev pub replayed : Contractor → Box → List Ask → List (Ask × Option (Result Answer Refusal))
+replayed f box [] = []
+replayed f box (c ∷ cs) = (answered c (outcome f box c), Some (outcome f box c).answer) ∷ replayed f (outcome f box c).box cs
 
 -- A replay that was opened: every answer and record, and the last box, are the machine's, which started with the first box; and
 -- every run of calls with this meaning and certificate is dependable.
 pub record AsTheMachine (m : Meaning) (us : List ℤ) (before after : List Entry) (last : Box) : Type 0 where
   pub opened : Opens m us
-  pub answers_and_records : map shown after ≡ replayed m (first_box m us) (map ask before)
+  pub answers_and_records : map shown after ≡ replayed (narrowed m) (first_box m us) (map ask before)
   pub box_after : last ≡ last_box m us (map ask before)
   pub dependable : Dependable m us
 

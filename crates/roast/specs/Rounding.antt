@@ -1,5 +1,5 @@
 -- Quotients of ranges with the ends rounded outward, and the common part of two ranges.
-use Rattle.std.specs.Prelude.{Bool, cond, ◌↔◌, ℤ, pos, ◌*ℤ◌, neg_ℤ, ◌≤ℤ◌, ◌<ℤ◌, Some, None, Option, int_le, int_lt}
+use Rattle.std.specs.Prelude.{Bool, if◌then◌else◌, ◌↔◌, ℤ, pos, ◌*ℤ◌, neg_ℤ, ◌≤ℤ◌, ◌<ℤ◌, Some, None, Option, int_le, int_lt}
 use Rattle.std.specs.Int.{int_min, int_max, int_div_euclid}
 use Rattle.balance.specs.declared.range.Range.{Range}
 use Rattle.balance.specs.Ranges.{range, contains, Ordered, Inside}
@@ -7,26 +7,27 @@ use Rattle.balance.specs.Ranges.{range, contains, Ordered, Inside}
 abbrev pub holds_zero : Range → Bool
 holds_zero a = contains a (pos 0)
 
--- m / d rounded down and rounded up, for d above 0
+-- m / d rounded down, for d other than 0. (Euclid's quotient rounds down by a divisor above 0, and up by one below 0.)
 abbrev pub floor : ℤ → ℤ → ℤ
-floor m d = int_div_euclid m d
+floor m d = if int_lt (pos 0) d then int_div_euclid m d else neg_ℤ (int_div_euclid (neg_ℤ m) d)
 
+-- m / d rounded up
 abbrev pub ceiling : ℤ → ℤ → ℤ
-ceiling m d = neg_ℤ (int_div_euclid (neg_ℤ m) d)
+ceiling m d = neg_ℤ (floor (neg_ℤ m) d)
 
-abbrev pub negated : Range → Range
-negated a = range (neg_ℤ a.upper) (neg_ℤ a.lower)
+-- the end of d by which m / d is lowest, and the one by which it is highest, for d above 0 and for d below 0 alike
+abbrev pub lowering_end : ℤ → Range → ℤ
+lowering_end m d = if int_le (pos 0) m then d.upper else d.lower
 
--- for d above 0: each end of m by the end of d that takes it farther out
-abbrev pub quotient_above : Range → Range → Range
-quotient_above m d =
-    range
-    (floor m.lower (cond (int_le (pos 0) m.lower) d.upper d.lower))
-    (ceiling m.upper (cond (int_le (pos 0) m.upper) d.lower d.upper))
+abbrev pub raising_end : ℤ → Range → ℤ
+raising_end m d = if int_le (pos 0) m then d.lower else d.upper
 
--- for d below 0: both negated
+-- by d above 0, and by d below 0, where the highest m makes the lowest quotient
 abbrev pub quotient : Range → Range → Range
-quotient m d = cond (int_lt (pos 0) d.lower) (quotient_above m d) (quotient_above (negated m) (negated d))
+quotient m d =
+    if int_lt (pos 0) d.lower
+    then range (floor m.lower (lowering_end m.lower d)) (ceiling m.upper (raising_end m.upper d))
+    else range (floor m.upper (lowering_end m.upper d)) (ceiling m.lower (raising_end m.lower d))
 
 -- z ≤ n / a and n / a ≤ z, multiplied out by the sign of a
 abbrev pub AtMost : ℤ → ℤ → ℤ → Type 0
@@ -44,9 +45,9 @@ pub record RoundedOutward (m d q : Range) : Type 0 where
 -- the numbers that two ranges have in common, or nothing
 abbrev pub shared : Range → Range → Option Range
 shared a b =
-    cond (int_le (int_max a.lower b.lower) (int_min a.upper b.upper))
-    (Some (range (int_max a.lower b.lower) (int_min a.upper b.upper)))
-    None
+    if int_le (int_max a.lower b.lower) (int_min a.upper b.upper)
+    then Some (range (int_max a.lower b.lower) (int_min a.upper b.upper))
+    else None
 
 -- the law of the common part
 abbrev pub CommonPart : Range → Range → Option Range → Type 0

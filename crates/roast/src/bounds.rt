@@ -1,13 +1,11 @@
 ghost use Rattle.std.specs.Prelude.{◌≡◌, ◌-◌, ◌+◌, ◌^◌, ◌<◌, [], ◌∷◌, ◌++◌, length, slice_set};
-ghost use Rattle.balance.specs.Ranges.{Between};
-ghost use Rattle.balance.specs.Rows.{at, AllBetween};
-ghost use Rattle.roast.specs.Narrowing.{HasNode};
+ghost use Rattle.balance.specs.Ranges.{Between, AllBetween};
+ghost use Rattle.roast.specs.Narrowing.{at, HasNode};
 
 use balance::range::Range;
 use std::marker::Model;
 
-// The ranges of at most 32 nodes, node 1 first, each in order and within ±2^30. Of a fixed size with a count beside, by
-// the rule that a roast's box is a plain inner table; a list of fixed room would be another library's, to be trusted too.
+/// The ranges of at most 32 nodes, node 1 first, each in order and within ±2^30. They have a fixed size, so that no call on them allocates.
 #[derive(Drop)]
 pub struct Bounds {
     count: usize,
@@ -18,7 +16,7 @@ pub struct Bounds {
 impl Model for Bounds {
     ghost use Rattle.std.specs.Prelude.{List, ◌≡◌, ◌^◌, ◌≤◌, length, take};
     ghost use Rattle.balance.specs.declared.range.Range.{Range};
-    ghost use Rattle.balance.specs.Rows.{AllBetween};
+    ghost use Rattle.balance.specs.Ranges.{AllBetween};
 
     ghost Value = { List Range };
 
@@ -39,8 +37,6 @@ impl Default for Bounds {
     }
 }
 
-// A node is asked for as one of the bounds, here and in the steps: a type that held it would borrow the bounds for a whole step. Ranges come in
-// plain and go out so, with their limit beside: a type for a narrow range would be opened again in each function.
 impl Bounds {
     // No derive: a clone may fail by its contract, and a copy would have to give back what the view leaves out.
     pub(crate) fn copied(&self) -> Bounds
@@ -66,7 +62,7 @@ impl Bounds {
         self.all()[node - 1]
     }
 
-    // All ranges, node 1 first. The limit is told of all at once too, for the sum of a row.
+    // All ranges, node 1 first.
     pub(crate) fn all(&self) -> &[Range]
         ensures is { result.now ≡ self.now }
         ensures narrow { AllBetween (2 ^ 30) self.now }

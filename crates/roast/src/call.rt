@@ -6,9 +6,9 @@ use balance::range::Range;
 use balance::refusal::Refusal;
 use std::fmt;
 
-// One reading of a list: a node and a range, and 0 or the number of its refusal once it was taken.
-// The number is a byte, by the rule that the call writes it into the record in place. The two ends stand apart, here and in the calls, as a recorder
-// sends them: a record is four fields in place, and crossed ends are refused by the call.
+/// One reading of a list: a node and two ends in millidegrees, and 0 or the number of its refusal once it was taken.
+///
+/// It is four numbers in place, as a recorder sends them; crossed ends are refused by the call that takes it.
 #[derive(Clone, Copy, PartialEq, Eq, Debug)]
 pub struct Reading {
     pub node: usize,
@@ -18,7 +18,7 @@ pub struct Reading {
 }
 
 impl Reading {
-    // One that was not taken yet.
+    /// One that was not taken yet.
     pub fn new(node: usize, lower: i64, upper: i64) -> Reading
         ensures is_unanswered { result ≡ record { node = node; lower = lower; upper = upper; answer = 0 } }
     {
@@ -31,7 +31,7 @@ impl Reading {
     }
 }
 
-// A call on a roast.
+/// A call on a roast.
 #[derive(PartialEq, Eq, Debug, Drop)]
 pub enum Call {
     RowStep { node: usize },
@@ -42,7 +42,7 @@ pub enum Call {
     Ends { node: usize },
 }
 
-// What a call answers.
+/// What a call answers.
 #[derive(Clone, Copy, PartialEq, Eq, Debug)]
 pub enum Answer {
     // A row step or a reading: whether it changed the node's range.
@@ -57,7 +57,7 @@ pub enum Answer {
     Ends((i64, i64)),
 }
 
-// A call with its answer or refusal, once it was made.
+/// A call with its answer or refusal, once it was made.
 #[derive(PartialEq, Eq, Debug, Drop)]
 pub struct Entry {
     pub call: Call,
@@ -75,7 +75,6 @@ impl From<Reading> for Range {
     }
 }
 
-// Calls and answers are closed lists, so their texts match them: clauses see which case is shown.
 // A record is shown by what was read.
 impl fmt::Display for Reading {
     ghost output = { λ r. Some (reading_text r.node r.lower r.upper) };

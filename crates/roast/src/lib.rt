@@ -4,7 +4,9 @@
 mod bounds;
 pub mod call;
 mod certificate;
+mod matrix;
 mod narrowing;
 pub mod replay;
 pub mod roast;
 mod rounding;
+mod rows;

@@ -1,43 +1,38 @@
 // Row steps, rounds and readings on the bounds of a roast, each equal to the reference machine's.
-ghost use Rattle.std.specs.Prelude.{◌≡◌, ◌^◌, [], IfSome};
+ghost use Rattle.std.specs.Prelude.{◌≡◌, ◌^◌, false, length, IfSome};
 ghost use Rattle.balance.specs.Ranges.{Between};
-ghost use Rattle.roast.specs.declared.call.Answer.TheVariants.{Changed, Changes};
-ghost use Rattle.roast.specs.Narrowing.{HasNode, narrowed, take as step, row_step, rests};
-ghost use Rattle.roast.specs.Machine.{step_outcome, outcome, round, reading_outcome, readings_outcome, mark};
-ghost use Rattle.roast.specs.Answers.{as_answer};
+ghost use Rattle.roast.specs.Narrowing.{HasNode, narrowed};
+ghost use Rattle.roast.specs.Machine.{step_to, row_step, round, reading, readings, mark, changes_nothing, ends};
+ghost use Rattle.roast.specs.Assembled.{meant, Fits, FitsBox};
 
 use super::bounds::Bounds;
 use super::call::Reading;
+use super::matrix::Matrix;
 use super::rounding;
+use super::rows::{difference, row_sum};
 use balance::range::Range;
 use balance::refusal::Refusal;
-use balance::rows::{Nodes, coefficient_range, right_side_range, row_sum};
-use balance::system::{System, check_node};
+use balance::system::check_node;
 
 impl Bounds {
     // What a row leaves of its node's range.
-    fn narrowed<S: System>(&self, system: &S, node: usize) -> Option<Range>
+    fn narrowed(&self, matrix: &Matrix, node: usize) -> Option<Range>
         requires has_the_node { HasNode self.now node }
-        ensures is { result ≡ narrowed (S.meaning system.now) self.now node }
+        requires fits { Fits matrix.now (length self.now) }
+        ensures is { result ≡ narrowed (meant matrix.now) self.now node }
         ensures narrow { IfSome result (Between (2 ^ 30)) }
     {
-        let nodes = Nodes { cells: self.all() };
-        let sum = row_sum(system, &nodes, node, node)?;
-        let side = right_side_range(system, node)?;
-        let diagonal = coefficient_range(system, node, node)?;
-        if diagonal.contains(0) {
-            return None;
-        }
-        let numerator = side.checked_sub(sum)?;
+        let sum = row_sum(matrix.row(node), self.all(), node);
+        let numerator = difference(matrix.side(node), sum);
+        let diagonal = matrix.coefficient(node, node);
         rounding::shared(self.at(node), rounding::quotient(numerator, diagonal))
     }
 
-    // Gives the node a range, where there is one, and says whether that changed it.
-    fn accept(&mut self, node: usize, range: Option<Range>) -> Result<bool, Refusal>
+    // Gives a node the range that it keeps, and says whether that changed it; where it keeps none, the step is a conflict.
+    fn step_to(&mut self, node: usize, range: Option<Range>) -> Result<bool, Refusal>
         requires has_the_node { HasNode self.old node }
         requires narrow { IfSome range (Between (2 ^ 30)) }
-        ensures answers { as_answer Changed result ≡ (step_outcome self.old (step self.old node range)).answer }
-        ensures leaves { self.new ≡ (step_outcome self.old (step self.old node range)).box }
+        ensures { (result, self.new) ≡ step_to self.old node range }
     {
         let range = range.ok_or(Refusal::Conflict { place: node })?;
         let changed = self.at(node) != range;
@@ -46,60 +41,66 @@ impl Bounds {
     }
 
     // Narrows a node's range by its row, and says whether that changed it.
-    pub(crate) fn step_row<S: System>(&mut self, system: &S, node: usize) -> Result<bool, Refusal>
+    pub(crate) fn row_step(&mut self, matrix: &Matrix, node: usize) -> Result<bool, Refusal>
         requires has_the_node { HasNode self.old node }
-        ensures answers { as_answer Changed result ≡ (step_outcome self.old (row_step (S.meaning system.now) self.old node)).answer }
-        ensures leaves { self.new ≡ (step_outcome self.old (row_step (S.meaning system.now) self.old node)).box }
+        requires fits { Fits matrix.now (length self.old) }
+        ensures { (result, self.new) ≡ row_step (narrowed (meant matrix.now)) self.old node }
     {
-        let range = self.narrowed(system, node);
-        self.accept(node, range)
+        let range = self.narrowed(matrix, node);
+        self.step_to(node, range)
     }
 
-    // Whether the row step of a node would be accepted and change nothing.
-    pub(crate) fn rests<S: System>(&self, system: &S, node: usize) -> bool
-        requires has_the_node { HasNode self.now node }
-        ensures { result ≡ rests (row_step (S.meaning system.now) self.now node) }
-    {
-        self.narrowed(system, node) == Some(self.at(node))
-    }
-
-    // A row step of each node in order, made on a copy, so that a conflict undoes them all.
-    pub(crate) fn sweep<S: System>(&mut self, system: &S) -> Result<usize, Refusal>
-        ensures answers { as_answer Changes result ≡ (outcome (S.meaning system.now) self.old round).answer }
-        ensures leaves { self.new ≡ (outcome (S.meaning system.now) self.old round).box }
+    // Row steps 1 to n, made on a copy, so that a conflict undoes them all.
+    pub(crate) fn round(&mut self, matrix: &Matrix) -> Result<usize, Refusal>
+        requires { FitsBox matrix.now self.old }
+        ensures { (result, self.new) ≡ round (narrowed (meant matrix.now)) self.old }
     {
         let mut next = self.copied();
         let mut changes = 0;
-        for node in 1..=self.count() {
-            changes += usize::from(next.step_row(system, node)?);
+        for node in 1..self.count() + 1 {
+            changes += usize::from(next.row_step(matrix, node)?);
         }
         *self = next;
         Ok(changes)
     }
 
+    // Whether the row step of a node would be accepted and change nothing.
+    pub(crate) fn rests(&self, matrix: &Matrix, node: usize) -> bool
+        requires has_the_node { HasNode self.now node }
+        requires fits { Fits matrix.now (length self.now) }
+        ensures { result ≡ changes_nothing (row_step (narrowed (meant matrix.now)) self.now node).0 }
+    {
+        self.narrowed(matrix, node) == Some(self.at(node))
+    }
+
     // Takes a reading of a node, and says whether it changed the node's range.
-    pub(crate) fn read(&mut self, node: usize, range: Range) -> Result<bool, Refusal>
-        ensures answers { as_answer Changed result ≡ (reading_outcome self.old node range.lower range.upper).answer }
-        ensures leaves { self.new ≡ (reading_outcome self.old node range.lower range.upper).box }
+    pub(crate) fn reading(&mut self, node: usize, range: Range) -> Result<bool, Refusal>
+        ensures { (result, self.new) ≡ reading self.old node range.lower range.upper }
     {
         check_node(self.count(), node)?;
         if !range.is_in_order() {
             return Err(Refusal::Crossed { place: node });
         }
-        let left = rounding::shared(self.at(node), range);
-        self.accept(node, left)
+        let shared = rounding::shared(self.at(node), range);
+        self.step_to(node, shared)
     }
 
     // The records in order as readings, each marked in place.
-    pub(crate) fn read_all(&mut self, list: &mut [Reading])
-        ensures leaves { self.new ≡ (readings_outcome self.old [] list.old).box }
-        ensures records { list.new ≡ (readings_outcome self.old [] list.old).records }
+    pub(crate) fn readings(&mut self, list: &mut [Reading])
+        ensures { (list.new, self.new) ≡ readings self.old list.old }
     {
-        // By index, by the rule that the records are taken in a loop with their index and each answer is written in place.
         for i in 0..list.len() {
             let record = list[i];
-            list[i].answer = mark(self.read(record.node, record.into()));
+            list[i].answer = mark(self.reading(record.node, record.into()));
         }
+    }
+
+    // A node's two ends.
+    pub(crate) fn ends(&self, node: usize) -> Result<(i64, i64), Refusal>
+        ensures { result ≡ ends self.now node }
+    {
+        check_node(self.count(), node)?;
+        Ok(self.at(node).into())
     }
 }
 

@@ -1,7 +1,7 @@
 ghost use Rattle.std.specs.Prelude.{◌≡◌, map, Some};
 ghost use Rattle.roast.specs.Certificates.{opening};
-ghost use Rattle.roast.specs.Machine.{outcome, asked, after};
-ghost use Rattle.roast.specs.Answers.{opened};
+ghost use Rattle.roast.specs.Narrowing.{narrowed};
+ghost use Rattle.roast.specs.Machine.{replacement, outcome, ask_of, after};
 ghost use Rattle.roast.specs.Replays.{ask, shown, answered, replayed, Replayed};
 
 use super::call::{Answer, Call, Entry};
@@ -9,12 +9,13 @@ use super::roast::Roast;
 use balance::refusal::Refusal;
 use balance::system::System;
 
-// Makes a call. The kinds of call are a closed list, and the main promise speaks of lists of them as values: clauses see which it is. (`same`, here
-// and below, relates what was to what is, which no invariant of a value can say.)
+// Makes a call of any kind.
 fn play<S: System>(roast: &mut Roast<S>, call: &mut Call) -> Result<Answer, Refusal>
-    ensures answers { result ≡ (outcome (S.meaning roast.old.system) roast.old.bounds (asked call.old)).answer }
-    ensures leaves { roast.new.bounds ≡ (outcome (S.meaning roast.old.system) roast.old.bounds (asked call.old)).box }
-    ensures records { asked call.new ≡ answered (asked call.old) (outcome (S.meaning roast.old.system) roast.old.bounds (asked call.old)) }
+    ensures answers { result ≡ (outcome (narrowed (S.meaning roast.old.system)) roast.old.bounds (ask_of call.old)).answer }
+    ensures leaves { let o = outcome (narrowed (S.meaning roast.old.system)) roast.old.bounds (ask_of call.old) in
+        roast.new.bounds ≡ o.box }
+    ensures records { let o = outcome (narrowed (S.meaning roast.old.system)) roast.old.bounds (ask_of call.old) in
+        ask_of call.new ≡ answered (ask_of call.old) o }
     ensures same { roast.new.system ≡ roast.old.system }
 {
     match *call {
@@ -34,9 +35,12 @@ fn play<S: System>(roast: &mut Roast<S>, call: &mut Call) -> Result<Answer, Refu
 
 // Makes the call of an entry, and writes its answer beside it.
 fn play_entry<S: System>(roast: &mut Roast<S>, entry: &mut Entry)
-    ensures leaves { roast.new.bounds ≡ (outcome (S.meaning roast.old.system) roast.old.bounds (ask entry.old)).box }
-    ensures answers { entry.new.answer ≡ Some (outcome (S.meaning roast.old.system) roast.old.bounds (ask entry.old)).answer }
-    ensures records { ask entry.new ≡ answered (ask entry.old) (outcome (S.meaning roast.old.system) roast.old.bounds (ask entry.old)) }
+    ensures leaves { let o = outcome (narrowed (S.meaning roast.old.system)) roast.old.bounds (ask entry.old) in
+        roast.new.bounds ≡ o.box }
+    ensures answers { let o = outcome (narrowed (S.meaning roast.old.system)) roast.old.bounds (ask entry.old) in
+        entry.new.answer ≡ Some o.answer }
+    ensures records { let o = outcome (narrowed (S.meaning roast.old.system)) roast.old.bounds (ask entry.old) in
+        ask entry.new ≡ answered (ask entry.old) o }
     ensures same { roast.new.system ≡ roast.old.system }
 {
     entry.answer = Some(play(roast, &mut entry.call));
@@ -44,8 +48,10 @@ fn play_entry<S: System>(roast: &mut Roast<S>, entry: &mut Entry)
 
 // Makes each call in order.
 fn play_all<S: System>(roast: &mut Roast<S>, entries: &mut [Entry])
-    ensures leaves { roast.new.bounds ≡ after (S.meaning roast.old.system) roast.old.bounds (map ask entries.old) }
-    ensures answers { map shown entries.new ≡ replayed (S.meaning roast.old.system) roast.old.bounds (map ask entries.old) }
+    ensures leaves { let f = narrowed (S.meaning roast.old.system) in
+        roast.new.bounds ≡ after f roast.old.bounds (map ask entries.old) }
+    ensures answers { let f = narrowed (S.meaning roast.old.system) in
+        map shown entries.new ≡ replayed f roast.old.bounds (map ask entries.old) }
     ensures same { roast.new.system ≡ roast.old.system }
 {
     for entry in entries {
@@ -54,10 +60,14 @@ fn play_all<S: System>(roast: &mut Roast<S>, entries: &mut [Entry])
 }
 
 impl<S: System> Roast<S> {
-    // Opens the roast and makes a list of calls of any kind, writing each answer beside its call. A refused opening makes none.
+    /// Opens the roast and makes a list of calls of any kind, writing each answer beside its call. A refused opening makes none.
+    ///
+    /// Refused is what an opening refuses; a refused call is an answer.
     pub fn replay(&mut self, certificate: &[i64], entries: &mut [Entry]) -> Result<(), Refusal>
-        ensures opens_or_refuses_as_opening_does { result ≡ opened (opening (S.meaning self.old.system) certificate.now) }
-        ensures replays_as_the_machine_and_is_dependable { Replayed (S.meaning self.old.system) certificate.now entries.old entries.new self.old.bounds self.new.bounds result }
+        ensures opens_or_refuses_as_opening_does { let m = S.meaning self.old.system in
+            result ≡ (replacement self.old.bounds (opening m certificate.now)).0 }
+        ensures replays_as_the_machine_and_is_dependable { let m = S.meaning self.old.system in
+            Replayed m certificate.now entries.old entries.new self.old.bounds self.new.bounds result }
         ensures keeps_the_system { self.new.system ≡ self.old.system }
     {
         self.open(certificate)?;

@@ -1,64 +1,64 @@
 // Quotients of ranges with the ends rounded outward, and the common part of two ranges.
-ghost use Rattle.std.specs.Prelude.{◌≡◌, ◌-◌, ◌^◌, ◌≤◌, false, pos, ◌≤ℤ◌, ◌<ℤ◌, unsigned_abs};
-ghost use Rattle.balance.specs.Ranges.{Between, Ordered};
-ghost use Rattle.roast.specs.Rounding.{holds_zero, floor, ceiling, negated, quotient_above, quotient, RoundedOutward, shared, CommonPart};
+ghost use Rattle.std.specs.Prelude.{◌≡◌, ◌≢◌, ◌+◌, ◌^◌, ◌≤◌, false, pos, unsigned_abs};
+ghost use Rattle.balance.specs.Ranges.{Between};
+ghost use Rattle.roast.specs.Rounding.{holds_zero, floor, ceiling, lowering_end, raising_end, quotient, RoundedOutward, shared, CommonPart};
 
 use balance::range::Range;
 
-// Signed floor and ceiling division, by the rule on the form of rounding. (That a numerator can be negated is asked for in all that divides: a
-// type for such a range would be opened again in each.)
+// Rounded down. Euclid's quotient rounds down by a divisor above 0, and up by one below 0.
 fn floor(m: i64, d: i64) -> i64
-    requires { pos 0 <ℤ d }
+    requires narrow { unsigned_abs m ≤ 2 ^ 62 + 2 ^ 42 }
+    requires divisor_is_not_zero { d ≢ pos 0 }
     ensures { result ≡ floor m d }
 {
-    m.div_euclid(d)
+    if 0 < d {
+        m.div_euclid(d)
+    } else {
+        -(-m).div_euclid(d)
+    }
 }
 
+// Rounded up.
 fn ceiling(m: i64, d: i64) -> i64
-    requires divisor_above_zero { pos 0 <ℤ d }
-    requires can_be_negated { unsigned_abs m ≤ 2 ^ 63 - 1 }
+    requires narrow { unsigned_abs m ≤ 2 ^ 62 + 2 ^ 42 }
+    requires divisor_is_not_zero { d ≢ pos 0 }
     ensures { result ≡ ceiling m d }
 {
-    -(-m).div_euclid(d)
+    -floor(-m, d)
 }
 
-fn quotient_above(m: Range, d: Range) -> Range
-    requires can_be_negated { Between (2 ^ 63 - 1) m }
-    requires divisor_above_zero { pos 0 <ℤ d.lower }
-    requires divisor_in_order { Ordered d }
-    ensures { result ≡ quotient_above m d }
+// The end of `d` by which `m / d` is lowest.
+fn lowering_end(m: i64, d: Range) -> i64
+    ensures { result ≡ lowering_end m d }
 {
-    let lower_by = if 0 <= m.lower { d.upper } else { d.lower };
-    let upper_by = if 0 <= m.upper { d.lower } else { d.upper };
-    Range {
-        lower: floor(m.lower, lower_by),
-        upper: ceiling(m.upper, upper_by),
-    }
+    if 0 <= m { d.upper } else { d.lower }
 }
 
-// By hand: `Range::checked_sub` tells a difference from zero as an `Option`, and a quotient is none.
-fn negated(a: Range) -> Range
-    requires { Between (2 ^ 63 - 1) a }
-    ensures { result ≡ negated a }
+// The end of `d` by which `m / d` is highest.
+fn raising_end(m: i64, d: Range) -> i64
+    ensures { result ≡ raising_end m d }
 {
-    Range {
-        lower: -a.upper,
-        upper: -a.lower,
-    }
+    if 0 <= m { d.lower } else { d.upper }
 }
 
 // Every quotient of a number of `m` by a number of `d`, which does not hold 0.
 pub(crate) fn quotient(m: Range, d: Range) -> Range
-    requires can_be_negated { Between (2 ^ 63 - 1) m }
+    requires narrow { Between (2 ^ 62 + 2 ^ 42) m }
     requires divisor_is_narrow { Between (2 ^ 20) d }
     requires divisor_without_zero { holds_zero d ≡ false }
     ensures is { result ≡ quotient m d }
     ensures rounds_outward { RoundedOutward m d result }
 {
     if 0 < d.lower {
-        quotient_above(m, d)
+        Range {
+            lower: floor(m.lower, lowering_end(m.lower, d)),
+            upper: ceiling(m.upper, raising_end(m.upper, d)),
+        }
     } else {
-        quotient_above(negated(m), negated(d))
+        Range {
+            lower: floor(m.upper, lowering_end(m.upper, d)),
+            upper: ceiling(m.lower, raising_end(m.lower, d)),
+        }
     }
 }
 

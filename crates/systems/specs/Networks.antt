@@ -1,5 +1,5 @@
 -- A network of links between nodes: what its records add to the balance, and which records it takes.
-use Rattle.std.specs.Prelude.{ℕ, ◌+◌, ◌-◌, ◌^◌, Bool, cond, ◌&&◌, List, [], ◌∷◌, length, pos, Some, None, Option, ◌==◌, int_le, nat_le, slice_index_or}
+use Rattle.std.specs.Prelude.{ℕ, ◌+◌, ◌-◌, ◌^◌, Bool, cond, ◌&&◌, ◌||◌, List, [], ◌∷◌, length, pos, Some, None, Option, ◌==◌, int_le, nat_le, slice_index_or}
 use Rattle.balance.specs.declared.range.Range.{Range}
 use Rattle.balance.specs.declared.refusal.Refusal.{Refusal}
 use Rattle.balance.specs.declared.refusal.Refusal.TheVariants.{Size, Node, Crossed, Limit}
@@ -97,3 +97,11 @@ network_refusal n rs =
     cond (nat_le 1 n && nat_le n 32 && nat_le (length rs) 256)
     (first (λ k. record_refusal n k (record_at rs k)) (length rs))
     (Some (Size 0))
+
+-- ---- which records a place passes over
+
+-- the record names node k; in rows and columns of other nodes it adds nothing
+abbrev pub names : ℕ → Record → Bool
+names k (Link i j conductance) = i == k || j == k
+names k (Outside i conductance temperature) = i == k
+names k (Heat i heat) = i == k

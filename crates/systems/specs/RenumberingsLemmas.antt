@@ -10,11 +10,11 @@ use Rattle.std.proofs.Math.Nat.{add-sub_cancel}
 use Rattle.std.proofs.lemmas.Bool.Decides.{nat_tests}
 use Rattle.balance.specs.declared.range.Range.{Range}
 use Rattle.balance.specs.Ranges.{only, times, meets}
-use Rattle.balance.specs.Meanings.{Place, told, refused, Meaning, IsNode, Lawful, Told, EveryPlaceAnswers, range_at, is_node, coefficient_answer, right_side_answer}
-use Rattle.balance.specs.Members.{Fraction, Member, Point, PickedAt}
+use Rattle.balance.specs.Meanings.{Meaning, IsNode, Lawful, Told, EveryPlaceAnswers, range_at, is_node, coefficient_answer, right_side_answer}
+use Rattle.balance.specs.Members.{Point}
 use Rattle.balance.specs.Places.{every}
 use Rattle.balance.specs.Points.{row, fits, Possible}
-use Rattle.balance.proofs.Points.{solution_fits, fits_solution, every_passes, passes_every}
+use Rattle.balance.proofs.Points.{member_answers, solution_fits, fits_solution, every_passes, passes_every}
 use Rattle.balance.proofs.Searches.{is_a_node, coefficient_at, right_side_at}
 use Rattle.systems.specs.Renumberings.{entry_at, node_below, renumbered, is_new, entry_allowed, order_refusal, Permutation, IsPermutation, Renumbers, RenumbersSolutions}
 use Rattle.systems.specs.Permutations.{onto, total_permuted}
@@ -127,16 +127,6 @@ above_found p (suc n) k i a b e = by (p (suc n) == k) refl (λ c. above_found p 
         (r.0, omega (arith, r.1), r.2)
 
 -- ---- solutions
-
-picked_told : (p : Place) (f : Fraction) → PickedAt p f → Told p
-picked_told (told r) f h = tt
-picked_told (refused a b c) f h = h
-
-member_answers : (m : Meaning) → Member m → EveryPlaceAnswers m
-member_answers m s = record {
-  coefficients = λ i j h k. picked_told (m.coefficient i j) (s.coefficient i j) (s.coefficients_picked i j h k);
-  right_sides = λ i h. picked_told (m.right_side i) (s.right_side i) (s.right_sides_picked i h);
-}
 
 module _ (m : Meaning) (lawful : Lawful m) (ps : List ℕ) (count : length ps ≡ m.size) (permutation : Permutation m.size (entry_at ps)) where
   abbrev p : ℕ → ℕ

@@ -3,7 +3,7 @@ use Rattle.std.specs.Prelude.{ℕ, ◌+◌, ◌-◌, ◌^◌, Bool, cond, ◌&&�
 use Rattle.balance.specs.declared.range.Range.{Range}
 use Rattle.balance.specs.declared.refusal.Refusal.{Refusal}
 use Rattle.balance.specs.Ranges.{range}
-use Rattle.balance.specs.Meanings.{Place, told, refused, Meaning, EveryPlaceAnswers, limited}
+use Rattle.balance.specs.Meanings.{Place, Meaning, EveryPlaceAnswers, limited, place_above}
 use Rattle.balance.specs.Members.{Point}
 use Rattle.balance.specs.Points.{Possible}
 use Rattle.systems.specs.Entries.{entries_refusal}
@@ -25,8 +25,7 @@ row_factor fs n i = cond (length fs == n) (Some (factor_at fs i)) None
 -- Part 3: a scaled end beyond the limit is refused. A refusal from below is passed up, and so is everything where there is no factor.
 abbrev pub scaled_place : ℕ → ℕ → ℕ → Option ℤ → Place → Place
 scaled_place limit row column None place = place
-scaled_place limit row column (Some f) (told r) = limited limit 3 row column (scaled f r)
-scaled_place limit row column (Some f) (refused k i j) = refused k i j
+scaled_place limit row column (Some f) place = place_above (λ r. limited limit 3 row column (scaled f r)) place
 
 abbrev pub row_scaled : List ℤ → Meaning → Meaning
 row_scaled fs m = record {

@@ -1,16 +1,17 @@
 -- Rows that are multiplied by factors: which factors are taken, and that the solutions stay.
-use Rattle.std.specs.Prelude.{◌≡◌, ℕ, ◌+◌, ◌^◌, ◌≤◌, Bool, true, false, cond, ◌↔◌, List, length, ℤ, pos, ◌*ℤ◌, neg_ℤ, Some, None, Option, FitsSigned, int_le, nat_eq, unsigned_abs, refl}
-use Rattle.std.proofs.Common.{arith, sym, ap, ◌∙◌, to_z, of_z}
+use Rattle.std.specs.Prelude.{◌≡◌, ℕ, ◌+◌, ◌^◌, ◌≤◌, true, ◌↔◌, List, length, ℤ, pos, ◌*ℤ◌, Some, None, Option, FitsSigned, nat_eq, unsigned_abs}
+use Rattle.std.proofs.Common.{arith, sym, ap, subst, ◌∙◌, to_z, of_z}
 use Rattle.std.proofs.lemmas.Int.{ints, to_z-of_z}
 use Rattle.std.specs.Int.{w64}
 use Rattle.std.proofs.lemmas.Bool.{eq-eqb}
 use Rattle.std.proofs.lemmas.Bool.Decides.{nat_tests}
 use Rattle.balance.specs.declared.range.Range.{Range}
-use Rattle.balance.specs.Ranges.{only, times, meets}
-use Rattle.balance.specs.Meanings.{Place, told, refused, Meaning, IsNode, Within, Lawful, Told, EveryPlaceAnswers, range_at, limited}
+use Rattle.balance.specs.Ranges.{only, limits, times, meets}
+use Rattle.balance.specs.Meanings.{Place, Meaning, IsNode, Within, Lawful, Told, EveryPlaceAnswers, range_at, limited}
 use Rattle.balance.specs.Members.{Point}
 use Rattle.balance.specs.Points.{row, fits, Possible}
 use Rattle.balance.proofs.Integers.{product_within}
+use Rattle.balance.proofs.Layers.{placed_told, above_within, above_told}
 use Rattle.balance.proofs.Points.{solution_fits, fits_solution}
 use Rattle.balance.specs.TablesLemmas.{limited_within}
 use Rattle.systems.specs.RowScalers.{scaled, scaled_place, factor_at, row_factor, factor_allowed, factors_refusal, row_scaled, KeepsSolutions}
@@ -53,8 +54,7 @@ product_held x f h k = (λ i. to_z w64 (of_z w64 (to_z-of_z w64 x (omega (arith,
 
 scaled_within : (limit row column : ℕ) (o : Option ℤ) (p : Place) → Within limit p → Within limit (scaled_place limit row column o p)
 scaled_within limit row column None p h = h
-scaled_within limit row column (Some f) (told r) h = limited_within limit 3 row column (scaled f r) (scaled_ordered f r h.1)
-scaled_within limit row column (Some f) (refused a b c) h = tt
+scaled_within limit row column (Some f) p h = above_within (λ r. limited limit 3 row column (scaled f r)) limit (λ r w. limited_within limit 3 row column (scaled f r) (scaled_ordered f r w.1)) p h
 
 pub scaled_lawful : (fs : List ℤ) (m : Meaning) → Lawful m → Lawful (row_scaled fs m)
 scaled_lawful fs m lawful = record {
@@ -66,16 +66,11 @@ scaled_lawful fs m lawful = record {
 
 -- ---- the solutions stay
 
-limited_told : (limit row column : ℕ) (s : Range) → Told (limited limit 3 row column s) → range_at (limited limit 3 row column s) ≡ s
-limited_told limit row column s = by (cond (int_le (neg_ℤ (pos limit)) s.lower) (int_le s.upper (pos limit)) false)
-  where
-    by : (t : Bool) → Told (cond t (told s) (refused 3 row column)) → range_at (cond t (told s) (refused 3 row column)) ≡ s
-    by true h = refl
-    by false h = absurd h
-
 scaled_told : (limit row column : ℕ) (f : ℤ) (p : Place) → Told (scaled_place limit row column (Some f) p) → Told p × (range_at (scaled_place limit row column (Some f) p) ≡ scaled f (range_at p))
-scaled_told limit row column f (told r) h = (tt, limited_told limit row column (scaled f r) h)
-scaled_told limit row column f (refused a b c) h = absurd h
+scaled_told limit row column f p h =
+    let made : Range → Place = λ r. limited limit 3 row column (scaled f r) in
+    let t = above_told made p h in
+    (t.0, ap range_at t.1 ∙ placed_told (limits limit) 3 row column (scaled f (range_at p)) (subst Told t.1 h))
 
 module _ (m : Meaning) (lawful : Lawful m) (fs : List ℤ) (ok : Factors m.size fs) (answers : EveryPlaceAnswers (row_scaled fs m)) where
   abbrev layer : Meaning

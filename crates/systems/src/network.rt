@@ -58,13 +58,19 @@ fn sum_of(row: usize, column: usize, terms: &[Addition]) -> Option<Range>
     Some(sum)
 }
 
-// What a record adds at a place.
+// What a record adds at a place. In rows and columns of nodes that it does not name that is nothing, so a place passes over most records.
 fn added(size: usize, record: &Record, row: usize, column: usize) -> Option<Range>
     requires in_order { ends_in_order «record».now ≡ true }
     requires within_limits { ends_within «record».now ≡ true }
     requires few_nodes { size ≤ 32 }
     ensures { result ≡ Some (sum_at row column (additions size «record».now)) }
 {
+    if !record.names(row) {
+        return Some(Range::ZERO);
+    }
+    if column <= size && !record.names(column) {
+        return Some(Range::ZERO);
+    }
     // Matched, as the sorts are a closed list: closures or `dyn` would hide from the contract which sort it is.
     match *record {
         Record::Link {
@@ -73,6 +79,7 @@ fn added(size: usize, record: &Record, row: usize, column: usize) -> Option<Rang
             conductance,
         } => {
             let negated = Range::ZERO.checked_sub(conductance)?;
+            // All four go to one place where a link leads from a node to itself.
             sum_of(
                 row,
                 column,

@@ -1,5 +1,5 @@
 ghost use Rattle.std.specs.Prelude.{◌≡◌};
-ghost use Rattle.systems.specs.Networks.{names_nodes, ends_in_order, ends_within, adds, amount_at};
+ghost use Rattle.systems.specs.Networks.{names, names_nodes, ends_in_order, ends_within, adds, amount_at};
 
 use balance::range::Range;
 use balance::system::{RIGHT_SIDES, is_node};
@@ -40,6 +40,17 @@ pub enum Record {
 }
 
 impl Record {
+    // Whether it names this node. All sorts are compared alike, since every place of a network asks this of every record.
+    pub(crate) fn names(&self, number: usize) -> bool
+        ensures { result ≡ names number self.now }
+    {
+        let (first, second) = match *self {
+            Record::Link { first, second, .. } => (first, second),
+            Record::Outside { node, .. } | Record::Heat { node, .. } => (node, node),
+        };
+        first == number || second == number
+    }
+
     // Whether the nodes that it names are among 1 to n.
     pub(crate) fn names_nodes(&self, size: usize) -> bool
         ensures { result ≡ names_nodes size self.now }

@@ -1,8 +1,15 @@
-use Rattle.std.proofs.Common.{Ok, ap, ◌∙◌}
-use Rattle.roast.specs.declared.call.Answer.TheVariants.{AtRest}
-use Rattle.roast.specs.Machine.{rest}
-use Rattle.firmware.proofs.Outcomes.{accepted_answer}
+use Rattle.std.proofs.Common.{◌≡◌, Ok, ap, ap₂, ◌∙◌}
+use Rattle.roast.specs.Narrowing.{narrowed}
+use Rattle.roast.specs.Machine.{at_rest}
+use Rattle.heat_file.specs.Checks.{and_then}
+use Rattle.firmware.specs.Drums.{drum, rest_call}
 use Rattle.firmware.proofs.asking.at_rest.Goals as goal
 
 pub returns : goal.returns
-returns c = ap (λ n. Ok n) c.told.ensures ∙ accepted_answer c.args.size c.args.cells.now c.args.certificate.now c.args.ranges.now c.in_ok-roast.roast.system.size c.in_ok-roast.roast.system.cells.now c.in_ok-roast.roast.bounds c.in_ok-roast.ensures.has_the_size c.in_ok-roast.ensures.has_the_cells c.in_ok-roast.ensures.holds_or_refuses rest (AtRest c.at_rest.result) c.at_rest.ensures.answers
+returns c =
+    let s = c.held.new.roast.system in
+    let size : s.size ≡ c.args.size = cc (c.in_ok-held.ensures.keeps_the_system, c.new-roast.ensures.holds_the_system, c.in_ok-system.ensures.holds_the_size) in
+    let cells : s.cells.now ≡ c.args.cells.now = cc (c.in_ok-held.ensures.keeps_the_system, c.new-roast.ensures.holds_the_system, c.in_ok-system.ensures.holds_the_cells) in
+    ap (λ t. Ok t) c.at_rest.ensures.answers
+    ∙ (ap (λ o. and_then o (λ box. Ok (at_rest (narrowed (drum s.size s.cells.now)) box))) c.in_ok-held.ensures.holds_or_refuses
+    ∙ ap₂ (λ k own. rest_call k own c.args.certificate.now c.args.ranges.now) size cells)

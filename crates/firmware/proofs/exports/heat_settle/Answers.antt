@@ -1,17 +1,9 @@
-use Rattle.std.proofs.Common.{sym, subst, ap, ◌∙◌}
-use Rattle.firmware.specs.Replies.{reply}
-use Rattle.firmware.specs.Drums.{drum, KeepsSolutions, GoesOn}
-use Rattle.firmware.proofs.Calls.{keeps_settling, goes_on_settling}
+use Rattle.firmware.specs.Replies.{yes_or_no}
+use Rattle.firmware.proofs.Calls.{settling_kept}
 use Rattle.firmware.proofs.exports.heat_settle.Goals as goal
 
-pub returns-clause-answers : goal.returns-clause-answers
-returns-clause-answers c = c.from.ensures ∙ ap reply c.settle.ensures.answers
-
-pub returns-clause-writes_the_box_unless_refused : goal.returns-clause-writes_the_box_unless_refused
-returns-clause-writes_the_box_unless_refused c = c.settle.ensures.writes_the_box_unless_refused
-
 pub returns-clause-keeps_every_solution : goal.returns-clause-keeps_every_solution
-returns-clause-keeps_every_solution c = subst (λ now. KeepsSolutions (drum c.args.size c.args.cells.now) c.args.ranges.now now) (sym c.settle.ensures.writes_the_box_unless_refused) (keeps_settling c.args.size c.args.cells.now c.args.certificate.now c.args.ranges.now)
+returns-clause-keeps_every_solution c s x solves h = (settling_kept c.args.size c.args.cells.now c.args.certificate.now c.args.ranges.now c.settle.result c.settle.new.ranges c.settle.ensures).solutions s x solves h (λ b among. elim among [ ])
 
 pub returns-clause-the_next_call_goes_on_from_what_is_written : goal.returns-clause-the_next_call_goes_on_from_what_is_written
-returns-clause-the_next_call_goes_on_from_what_is_written c = subst (λ now. GoesOn c.args.size c.args.cells.now c.args.certificate.now c.from.result now) (sym c.settle.ensures.writes_the_box_unless_refused) (goes_on_settling c.args.size c.args.cells.now c.args.certificate.now c.args.ranges.now c.from.result (c.from.ensures ∙ ap reply c.settle.ensures.answers))
+returns-clause-the_next_call_goes_on_from_what_is_written c = (settling_kept c.args.size c.args.cells.now c.args.certificate.now c.args.ranges.now c.settle.result c.settle.new.ranges c.settle.ensures).goes_on yes_or_no c.from.result c.from.ensures

@@ -1,10 +1,9 @@
-use Rattle.std.proofs.Common.{◌≡◌, ◌+◌, length, drop}
+use Rattle.std.proofs.Common.{◌≡◌, ◌+◌, drop}
 use Rattle.firmware.specs.Drums.{read_from}
 use Rattle.firmware.proofs.held.take.Given as goal
 
 abbrev pub invariant-loop-i : goal.invariant-loop-i
 invariant-loop-i g l = record {
   same_system : l.roast.system ≡ l.fn.roast.system;
-  nodes : length l.roast.bounds ≡ length l.fn.roast.bounds;
   left : read_from l.roast.bounds (l.i + 1) (drop l.i l.ranges) ≡ read_from l.fn.roast.bounds 1 l.ranges;
 }

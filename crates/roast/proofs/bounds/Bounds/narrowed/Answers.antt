@@ -1,48 +1,31 @@
-use Rattle.std.proofs.Common.{◌-◌, ◌^◌, sym, ap, ◌∙◌, subst, arith}
-use Rattle.std.proofs.lemmas.Int.{ints}
+use Rattle.std.proofs.Common.{◌≡◌, ◌^◌, length, sym, ap, ◌∙◌, subst}
 use Rattle.balance.specs.declared.range.Range.{Range}
-use Rattle.balance.specs.Ranges.{Between}
-use Rattle.roast.specs.Rounding.{quotient, shared}
+use Rattle.balance.specs.Ranges.{AllBetween, minus, total}
+use Rattle.roast.specs.Rounding.{holds_zero, quotient, shared}
+use Rattle.roast.specs.Narrowing.{Box}
+use Rattle.roast.specs.Matrices.{part}
 use Rattle.roast.proofs.Narrow.{shared_narrow}
-use Rattle.roast.proofs.RowSteps.{row_told, nodes_narrow, no_sum, leaves}
+use Rattle.roast.proofs.RowSteps.{wider, leaves}
 use Rattle.roast.proofs.bounds.Bounds.narrowed.Goals as goal
 
-pub returns-in_err-sum-clause-is : goal.returns-in_err-sum-clause-is
-returns-in_err-sum-clause-is g c =
-    let m = g.S.System.meaning c.args.system.now in
-    let x = c.args.self.now in
-    let i = c.args.node in
-    let narrow = c.all.ensures.narrow in
-    let none = c.in_err-sum.ensures.is_the_sum_where_all_answer ∙ row_told m x _ i c.all.ensures.is narrow in
-    c.from_residual.ensures ∙ sym (no_sum m x i c.requires.has_the_node narrow none)
+pub row_sum-sum-requires-clause-nodes_are_narrow : goal.row_sum-sum-requires-clause-nodes_are_narrow
+row_sum-sum-requires-clause-nodes_are_narrow c = wider c.all.result.now (subst (AllBetween (2 ^ 30)) (sym c.all.ensures.is) c.all.ensures.narrow)
 
-pub returns-in_err-numerator : goal.returns-in_err-numerator
-returns-in_err-numerator g c =
-    let sum = c.in_ok-sum.ensures.keeps_the_limit in
-    let side = c.in_ok-side.ensures.keeps_the_limit in
-    absurd (c.in_err-numerator.ensures.is_the_difference_where_it_fits (omega (arith, ints), omega (arith, ints)))
-
-pub quotient-requires-clause-can_be_negated : goal.quotient-requires-clause-can_be_negated
-quotient-requires-clause-can_be_negated g c =
-    let sum = c.in_ok-sum.ensures.keeps_the_limit in
-    let side = c.in_ok-side.ensures.keeps_the_limit in
-    let d = c.in_ok-numerator.ensures.is_the_difference_where_it_fits.1 in
-    subst (Between (2 ^ 63 - 1)) (sym d) (omega (arith, ints), omega (arith, ints), omega (arith, ints))
+pub quotient-requires-clause-divisor_without_zero : goal.quotient-requires-clause-divisor_without_zero
+quotient-requires-clause-divisor_without_zero c = ap holds_zero c.coefficient-diagonal.ensures.is ∙ c.requires.fits.apart c.args.node c.requires.has_the_node
 
 pub returns : goal.returns
-returns g c =
-    let m = g.S.System.meaning c.args.system.now in
+returns c =
+    let a = c.args.matrix.now in
     let x = c.args.self.now in
     let i = c.args.node in
-    let narrow = c.all.ensures.narrow in
-    let sum = c.in_ok-sum.ensures.is_the_sum_where_all_answer ∙ row_told m x _ i c.all.ensures.is narrow in
-    let diagonal = c.in_ok-diagonal.diagonal in
-    let f = leaves m x i c.requires.has_the_node narrow c.in_ok-sum.sum c.in_ok-side.side diagonal sum c.in_ok-side.ensures.is_the_range_where_it_answers c.in_ok-diagonal.ensures.is_the_range_where_it_answers (sym c.if-contains.ensures.is) in
-    let q = c.quotient.ensures.is ∙ ap (λ (n : Range). quotient n diagonal) c.in_ok-numerator.ensures.is_the_difference_where_it_fits.1 in
+    let d = c.coefficient-diagonal.ensures.is in
+    let row = c.row.result.now in
+    let sum : c.row_sum-sum.result ≡ total (part row x i) (length row) = c.row_sum-sum.ensures.is ∙ ap (λ (xs : Box). total (part row xs i) (length row)) c.all.ensures.is in
+    let f = leaves a x i c.requires.fits.rows row c.row_sum-sum.result c.row.ensures.is c.row.ensures.long sum (c.requires.fits.apart i c.requires.has_the_node) in
+    let n = c.difference-numerator.ensures.is ∙ ap (λ (b : Range). minus b c.row_sum-sum.result) c.side.ensures.is in
+    let q = c.quotient.ensures.is ∙ (λ k. quotient (n k) (d k)) in
     record {
       is = c.shared.ensures.is ∙ (λ k. shared (c.at.ensures.is k) (q k)) ∙ sym f;
       narrow = shared_narrow (2 ^ 30) _ _ _ c.at.ensures.narrow c.shared.ensures.is;
     }
-
-pub invariant_of-nodes : goal.invariant_of-nodes
-invariant_of-nodes g c = record { narrow = nodes_narrow c.args.self.now _ c.all.ensures.is c.all.ensures.narrow }

@@ -1,15 +1,19 @@
-use Rattle.std.proofs.Common.{ap, ◌∙◌, Ok, rules}
+use Rattle.std.proofs.Common.{ℕ, Bool, ap, ◌∙◌, rules}
 use Rattle.balance.specs.Places.{every}
 use Rattle.balance.proofs.Nodes.{all_nodes}
 use Rattle.balance.proofs.Points.{every_is}
-use Rattle.roast.specs.declared.call.Answer.TheVariants.{AtRest}
-use Rattle.roast.specs.Narrowing.{rests, row_step}
+use Rattle.roast.specs.Narrowing.{narrowed}
+use Rattle.roast.specs.Machine.{changes_nothing, row_step}
+use Rattle.roast.specs.Assembled.{meant}
+use Rattle.roast.proofs.Meant.{rest_held}
 use Rattle.roast.proofs.roast.Roast.at_rest.Goals as goal
 
 pub returns : goal.returns
 returns g c =
-    let m = g.S.System.meaning c.args.self.now.system in
-    let x = c.args.self.now.bounds in
+    let s = c.args.self.now in
+    let m = g.S.System.meaning s.system in
+    let x = s.bounds in
     let n = c.new.ensures in
-    let all = all_nodes _ _ c.count.result (λ i. rests (row_step m x i)) _ c.all.result c.all.ensures.runs n.start n.end n.exhausted (λ a r q h. search rules) (λ i v q h. search rules) in
-    record { answers = ap (λ b. Ok (AtRest b)) (every_is _ _ _ all ∙ ap (every (λ i. rests (row_step m x i))) c.count.ensures) }
+    let test : ℕ → Bool = λ i. changes_nothing (row_step (narrowed (meant s.matrix)) x i).0 in
+    let all = all_nodes _ _ c.count.result test _ c.all.result c.all.ensures.runs n.start n.end n.exhausted (λ a r q h. search rules) (λ i v q h. search rules) in
+    record { answers = every_is _ _ _ all ∙ ap (every test) c.count.ensures ∙ rest_held m s.matrix x s.held }

@@ -1,4 +1,5 @@
 use Rattle.std.proofs.Common.{map, ◌∙◌}
+use Rattle.roast.specs.Narrowing.{narrowed}
 use Rattle.roast.specs.Machine.{after}
 use Rattle.roast.specs.Replays.{ask, replayed}
 use Rattle.roast.proofs.Depends.{dependable}
@@ -10,11 +11,10 @@ returns-clause-replays_as_the_machine_and_is_dependable g c =
     let us = c.args.certificate.now in
     let cs = map ask c.args.entries.now in
     let e = c.in_ok-open.ensures in
-    let o = e.opens_exactly_when_certified in
     let p = c.play_all.ensures in
     record {
-      opened = o.0;
-      answers_and_records = p.answers ∙ (λ k. replayed (g.S.System.meaning (e.keeps_the_system k)) (o.1 k) cs);
-      box_after = p.leaves ∙ (λ k. after (g.S.System.meaning (e.keeps_the_system k)) (o.1 k) cs);
-      dependable = dependable (g.S.System.meaning s) us (g.met.S.System.lawful s) o.0.passes;
+      opened = e.opens_when_certified;
+      answers_and_records = p.answers ∙ (λ k. replayed (narrowed (g.S.System.meaning (e.keeps_the_system k))) (e.opens_the_first_box k) cs);
+      box_after = p.leaves ∙ (λ k. after (narrowed (g.S.System.meaning (e.keeps_the_system k))) (e.opens_the_first_box k) cs);
+      dependable = dependable (g.S.System.meaning s) us (g.met.S.System.lawful s) e.opens_when_certified;
     }
