@@ -9,15 +9,15 @@ use Rattle.std.specs.Int.{int_min, int_max}
 use Rattle.balance.specs.declared.range.Range.{Range}
 use Rattle.balance.specs.Ranges.{Ordered, ◌⊆◌}
 use Rattle.balance.specs.Meanings.{Meaning, is_node}
-use Rattle.roast.specs.Certificates.{first_box, opening, Opens}
+use Rattle.roast.specs.Certificates.{first_box, opening}
 use Rattle.roast.specs.Rounding.{shared}
 use Rattle.roast.specs.Narrowing.{Box, at, narrowed}
 use Rattle.roast.specs.Machine.{same_range, reading}
 use Rattle.roast.specs.Runs.{Bound}
-use Rattle.roast.proofs.Boxes.{nothing, ◌⊑◌, Tidy, ⊑_refl, ⊑_trans, row_shrinks}
-use Rattle.roast.proofs.FirstBox.{first_tidy}
-use Rattle.roast.proofs.Moves.{move_shrinks, run_moves}
+use Rattle.roast.proofs.Boxes.{nothing, ◌⊑◌, Tidy}
+use Rattle.roast.proofs.Moves.{run_moves}
 use Rattle.roast.proofs.Openings.{opens_so}
+use Rattle.roast.proofs.Sits.{Sits, sits_moved}
 use Rattle.heat_file.specs.Checks.{and_then}
 use Rattle.firmware.specs.Drums.{read_from}
 use Rattle.firmware.proofs.Taken.{read_first}
@@ -68,17 +68,8 @@ taken_over pre (s ∷ suf) (r ∷ rs) h t =
 -- ---- boxes that calls leave
 
 module _ (m : Meaning) (us : List ℤ) where
-  -- an opening succeeds, and the box lies in the first box
-  pub record Sits (B : Box) : Type 0 where
-    pub opens : Opens m us
-    pub below : B ⊑ first_box m us
-    pub tidy : Tidy B
+  pub sits_led : (bs : List Bound) (B C : Box) → Leads (narrowed m) bs B C → Sits m us B → Sits m us C
+  sits_led bs B C l s = subst (Sits m us) (sym l.left) (sits_moved m us (run_moves (narrowed m) B l.asks) s)
 
-  pub sits_first : Opens m us → Sits (first_box m us)
-  sits_first o = record { opens = o; below = ⊑_refl (first_box m us); tidy = first_tidy m us }
-
-  pub sits_led : (bs : List Bound) (B C : Box) → Leads (narrowed m) bs B C → Sits B → Sits C
-  sits_led bs B C l s = subst Sits (sym l.left) (let y = move_shrinks (row_shrinks m) s.tidy (run_moves (narrowed m) B l.asks) in record { opens = s.opens; below = ⊑_trans y.0 s.below; tidy = y.1 })
-
-  pub again : (B : Box) → Sits B → and_then (opening m us) (λ box. read_from box 1 B) ≡ Ok B
+  pub again : (B : Box) → Sits m us B → and_then (opening m us) (λ box. read_from box 1 B) ≡ Ok B
   again B s = rw (opens_so m us s.opens) (taken_over [] (first_box m us) B s.below s.tidy)

@@ -19,7 +19,8 @@ use Rattle.file_box.specs.Findings.{is_counted, Encloses}
 use Rattle.firmware.specs.declared.reply.Reply.{Reply}
 use Rattle.firmware.specs.Replies.{refused, reply, no_value}
 use Rattle.firmware.specs.Drums.{drum, held, called, settling, opening_call, row_step_call, round_call, settling_call, reading_call, possible_call, EnclosesIfAccepted, GoesOn}
-use Rattle.firmware.proofs.Boxes.{Sits, sits_first, sits_led}
+use Rattle.roast.proofs.Sits.{Sits, sits_first}
+use Rattle.firmware.proofs.Boxes.{sits_led}
 use Rattle.firmware.proofs.Leads.{bound, Leads, leads_holds, row_step_leads, round_leads, reading_leads, settling_leads}
 use Rattle.firmware.proofs.Standing.{First, opened_is, Held, held_is, lawful_drum, stands}
 

@@ -19,7 +19,8 @@ use Rattle.roast.proofs.Solvable.{opened_able}
 use Rattle.heat_file.specs.Checks.{and_then}
 use Rattle.file_box.specs.Findings.{is_counted}
 use Rattle.firmware.specs.Drums.{drum, first, read_from, held, settling, KeepsSolutions}
-use Rattle.firmware.proofs.Boxes.{Sits, sits_first, sits_led, again}
+use Rattle.roast.proofs.Sits.{Sits, sits_first}
+use Rattle.firmware.proofs.Boxes.{sits_led, again}
 use Rattle.firmware.proofs.Leads.{Leads, bounds, in_bounds, leads_long, leads_holds, row_step_leads, round_leads, reading_leads, settling_leads, read_leads}
 
 -- a call was made, or is refused

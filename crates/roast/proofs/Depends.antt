@@ -1,5 +1,5 @@
 -- An opening that succeeds makes every run of calls dependable.
-use Rattle.std.proofs.Common.{◌≡◌, ℕ, ◌-◌, ◌^◌, ◌≤◌, List, length, get_or, ℤ, pos, refl, ◌∙◌, subst, arith}
+use Rattle.std.proofs.Common.{◌≡◌, ℕ, ◌-◌, ◌^◌, ◌≤◌, List, ℤ, pos, refl, ◌∙◌, subst, arith}
 use borrow.Author.Differences.{ints}
 use Rattle.balance.specs.declared.range.Range.{Range}
 use Rattle.balance.specs.Ranges.{only, limits, Ordered, Between, ◌⊆◌}
@@ -10,22 +10,23 @@ use Rattle.roast.specs.Machine.{Ask, after}
 use Rattle.roast.specs.Runs.{accepted, SameSet, Rests, NoConflict, KeepsLimits, accepts, last_box, EndsAtRest, MeetsNoConflict, Dependable}
 use Rattle.roast.proofs.Boxes.{same_back, same_lawful, row_shrinks, row_monotone}
 use Rattle.roast.proofs.FirstBox.{first_box_holds, one_solution, first_tidy, first_length, first_same}
-use Rattle.roast.proofs.Moves.{move_long, move_shrinks, run_moves}
+use Rattle.roast.proofs.Moves.{run_moves}
 use Rattle.roast.proofs.Order.{one_rest, rest_calm, holds_every_rest, largest_at_rest}
+use Rattle.roast.proofs.Sits.{Sits, sits_first, sits_moved}
 use Rattle.roast.proofs.Solvable.{opened_able, keeps_common_part}
 use Rattle.roast.proofs.Sound.{run_holds, truth_calms}
 use Rattle.roast.proofs.Sums.{get_or_listed}
 
 -- ---- limits
 
-module _ (m : Meaning) (us : List ℤ) (opens : Opens m us) (box : Box) (nodes : length box ≡ m.size) (tidy : (k : ℕ) → Ordered (get_or box k (only (pos 0)))) (below : (k : ℕ) → get_or box k (only (pos 0)) ⊆ get_or (first_box m us) k (only (pos 0))) where
+module _ (m : Meaning) (us : List ℤ) (box : Box) (sits : Sits m us box) where
   pub keeps_limits : KeepsLimits m box
   keeps_limits = record {
-    nodes = nodes;
+    nodes = sits.below.long ∙ first_length m us;
     ranges = λ i n.
         let first : at (first_box m us) i ≡ limits (k m us i) = get_or_listed (first_range m us) m.size i (only (pos 0)) n in
-        let small = opens.narrow i n in
-        within (at box i) (k m us i) (tidy (i - 1)) (subst (λ r. at box i ⊆ r) first (below (i - 1))) small;
+        let small = sits.opens.narrow i n in
+        within (at box i) (k m us i) (sits.tidy (i - 1)) (subst (λ r. at box i ⊆ r) first (sits.below.each (i - 1))) small;
   }
     where
       within : (r : Range) (e : ℕ) → Ordered r → r ⊆ limits e → e ≤ 2 ^ 30 → Between (2 ^ 30) r
@@ -57,7 +58,7 @@ dependable m us lawful opens =
     record {
       holds_every_solution = λ cs s x solves a. run_holds m lawful s x solves able S fit (first_box_holds m us lawful opens.passes s x solves) cs a;
       one_solution = one_solution m us lawful opens.passes;
-      keeps_the_limits = λ cs. let r = run_moves f S cs in let y = move_shrinks (row_shrinks m) (first_tidy m us) r in keeps_limits m us opens (after f S cs) (move_long r ∙ fit) y.1 y.0.each;
+      keeps_the_limits = λ cs. keeps_limits m us (after f S cs) (sits_moved m us (run_moves f S cs) (sits_first m us opens));
       can_be_solved = able;
       rounds_outward = λ box i n h. keeps_common_part m able box i n h lawful;
       holds_every_box_at_rest = holds_every_rest f (row_shrinks m) monotone S (first_tidy m us);

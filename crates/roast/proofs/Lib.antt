@@ -15,6 +15,7 @@ pub mod RowSums
 pub mod RowSteps
 pub mod Meant
 pub mod Moves
+pub mod Sits
 pub mod Calm
 pub mod Order
 pub mod Sound
