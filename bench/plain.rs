@@ -455,7 +455,7 @@ impl<'a> Roast<'a> {
         Ok(changes)
     }
 
-    /// Rounds until one changes nothing, 64 at most; whether the box is at rest then.
+    /// Makes up to 64 rounds, and stops behind one that changes nothing; whether the box is then at rest.
     pub fn settle(&mut self) -> Result<bool, Refusal> {
         for _ in 0..ROUNDS {
             if self.round()? == 0 {

@@ -34,10 +34,10 @@ enum heat_refusal {
     HEAT_ACCEPTED = 0,
     HEAT_REFUSED_FILE = 1,        /* the file is empty or too long, or its trailer does not fit */
     HEAT_REFUSED_SHAPE = 2,       /* a data line has another shape */
-    HEAT_REFUSED_SIZE = 3,        /* the size, the number of cells or the number of ranges of a box is wrong */
+    HEAT_REFUSED_SIZE = 3,        /* another size, or a list of cells or ranges of another length */
     HEAT_REFUSED_NODE = 4,        /* a node lies outside 1 to n */
-    HEAT_REFUSED_ORDER = 5,       /* a data line is repeated or out of order */
-    HEAT_REFUSED_CROSSED = 6,     /* a lower end is above its upper end */
+    HEAT_REFUSED_ORDER = 5,       /* a data line comes twice, or too early or too late */
+    HEAT_REFUSED_CROSSED = 6,     /* a lower end exceeds its upper end */
     HEAT_REFUSED_ENTRY = 7,       /* of layers; no call below is refused so */
     HEAT_REFUSED_LIMIT = 8,       /* a number goes beyond its limits: part, row and column */
     HEAT_REFUSED_CERTIFICATE = 9, /* the certificate has another length, or a number outside 1 to 2^20 */
@@ -81,13 +81,13 @@ heat_reply heat_row_step(size_t size,
                          heat_range *box, size_t box_count,
                          size_t node);
 
-/* Row steps 1 to n, all or none. Answers how many of them changed a range. */
+/* Makes row steps 1 to n, all or none. Answers how many ranges they changed. */
 heat_reply heat_round(size_t size,
                       const heat_range *cells, size_t cell_count,
                       const int64_t *certificate, size_t certificate_count,
                       heat_range *box, size_t box_count);
 
-/* Rounds until one changes nothing, 64 at most. Answers 1 if the box is at rest then, and 0 if not. */
+/* Makes up to 64 rounds, and stops behind one that changes nothing. Answers 1 if the box is then at rest, and 0 if not. */
 heat_reply heat_settle(size_t size,
                        const heat_range *cells, size_t cell_count,
                        const int64_t *certificate, size_t certificate_count,
