@@ -131,7 +131,7 @@ impl<C: Cell> System for Table<C> {
     ghost lawful = { λ s. table_lawful C.Cell.ends C.Cell.ordered s.size s.cells.items (vec_len s.cells) s.counted };
 
     fn size(&self) -> usize {
-        self.size
+        self.lent().size()
     }
 
     fn coefficient(&self, row: usize, column: usize) -> Result<(i64, i64), Refusal> {

@@ -215,6 +215,21 @@ mod roasting {
         Ok(())
     }
 
+    // How wide a node's range is. A caller subtracts plainly, as each end of a roast lies within ±2^30.
+    fn width<S: System>(roast: &Roast<S>, node: usize) -> Result<i64, Refusal> {
+        let (lower, upper) = roast.ends(node)?;
+        Ok(upper - lower)
+    }
+
+    #[test]
+    fn widths_need_no_test(rt: HostRuntime) -> Result<(), Fail> {
+        let mut roast = Roast::new(Table::new(1, [1, WIDEST].to_vec(rt.alloc())?)?);
+        assert_eq!(rt; width(&roast, 1), Err(Refusal::Node { place: 1 }));
+        assert_eq!(rt; roast.open(&[1]), Ok(()));
+        assert_eq!(rt; width(&roast, 1), Ok(2 * WIDEST));
+        Ok(())
+    }
+
     #[test]
     fn certificates_are_refused_in_order(rt: HostRuntime) -> Result<(), Fail> {
         let mut roast = Roast::new(Table::new(2, drums::RANGES.to_vec(rt.alloc())?)?);

@@ -1,8 +1,8 @@
 -- What a certificate that passes says: the first box holds every solution, and no member system has two.
-use Rattle.std.proofs.Common.{◌≡◌, ℕ, zero, suc, ◌+◌, ◌*◌, ◌<◌, ◌≤◌, List, [], ◌∷◌, ◌++◌, length, get_or, ℤ, pos, ◌-ℤ◌, ◌*ℤ◌, neg_ℤ, nat_abs, ◌≤ℤ◌, ap, ◌∙◌, ap₂, mul-le-mul_left, le_of_mul-le-mul_right, arith}
+use Rattle.std.proofs.Common.{◌≡◌, ℕ, zero, suc, ◌+◌, ◌*◌, ◌^◌, ◌<◌, ◌≤◌, List, [], ◌∷◌, ◌++◌, length, get_or, ℤ, pos, ◌-ℤ◌, ◌*ℤ◌, neg_ℤ, nat_abs, ◌≤ℤ◌, ap, ◌∙◌, ap₂, mul-le-mul_left, le_of_mul-le-mul_right, arith}
 use borrow.Author.Differences.{ints, neg_is}
 use Rattle.balance.specs.declared.range.Range.{Range}
-use Rattle.balance.specs.Ranges.{limits, Ordered}
+use Rattle.balance.specs.Ranges.{limits, Ordered, Between, AllBetween}
 use Rattle.balance.specs.Meanings.{Meaning, IsNode, Same, Lawful, range_at, coefficient_range, right_side_range}
 use Rattle.balance.specs.Members.{Fraction, Member, Point, component, sum, Solves, SamePoint, ◌⊗◌}
 use Rattle.std.proofs.lemmas.Int.{unsigned_abs-mul}
@@ -136,6 +136,14 @@ listed_tidy f h (suc n) = each_push Ordered (listed f n) (f (suc n)) (listed_tid
 
 pub first_tidy : (m : Meaning) (us : List ℤ) → Tidy (first_box m us)
 first_tidy m us = listed_tidy (first_range m us) (λ i. omega (arith, ints)) m.size
+
+-- each of its ranges keeps the limits, where no first range is too wide
+pub first_narrow : (m : Meaning) (us : List ℤ) → ((i : ℕ) → IsNode m i → k m us i ≤ 2 ^ 30) → AllBetween (2 ^ 30) (first_box m us)
+first_narrow m us small = each m.size (λ i p q. small i (p, q))
+  where
+    each : (n : ℕ) → ((i : ℕ) → 1 ≤ i → i ≤ n → k m us i ≤ 2 ^ 30) → AllBetween (2 ^ 30) (listed (first_range m us) n)
+    each zero h = λ j. omega (arith, ints)
+    each (suc n) h = each_push (Between (2 ^ 30)) (listed (first_range m us) n) (first_range m us (suc n)) (each n (λ i p q. h i p (omega arith))) (omega (arith, ints, h (suc n) (omega arith) (omega arith))) (omega (arith, ints))
 
 pub first_length : (m : Meaning) (us : List ℤ) → length (first_box m us) ≡ m.size
 first_length m us = length_listed (first_range m us) m.size

@@ -1,11 +1,12 @@
 -- Every run of calls is a chain of moves: a row step, or a reading that is accepted.
-use Rattle.std.proofs.Common.{◌≡◌, ℕ, zero, suc, ◌-◌, Bool, true, false, cond, if◌then◌else◌, eqb, leb, ◌⊎◌, List, [], ◌∷◌, ◌++◌, length, set, ℤ, Some, None, Ok, Err, Option, Result, is_ok, int_le, sym, refl, ◌∙◌, subst, inl, inr, ⊎_elim, arith}
+use Rattle.std.proofs.Common.{◌≡◌, ℕ, zero, suc, ◌-◌, ◌^◌, ◌≤◌, Bool, true, false, cond, if◌then◌else◌, eqb, leb, ◌⊎◌, List, [], ◌∷◌, ◌++◌, length, set, ℤ, Some, None, Ok, Err, Option, Result, is_ok, int_le, sym, refl, ◌∙◌, subst, inl, inr, ⊎_elim, arith}
+use borrow.Author.Differences.{ints}
 use Rattle.std.proofs.lemmas.Bool.{leb-true}
 use Rattle.std.proofs.lemmas.List.{length-set, get_or-set_same}
 use Rattle.balance.specs.declared.range.Range.{Range}
 use Rattle.balance.specs.declared.refusal.Refusal.{Refusal}
 use Rattle.balance.specs.declared.refusal.Refusal.TheVariants.{Node, Crossed}
-use Rattle.balance.specs.Ranges.{range, ◌⊆◌}
+use Rattle.balance.specs.Ranges.{range, AllBetween, ◌⊆◌}
 use Rattle.balance.specs.Meanings.{is_node}
 use Rattle.balance.proofs.Refusals.{number-eqb}
 use Rattle.balance.proofs.Searches.{is_a_node}
@@ -120,6 +121,12 @@ move_shrinks {f} {B} law t stays = (⊑_refl B, t)
 move_shrinks law t (row {B = B} {i = i} {r = r} n e) = let s = law B i r e in (set_below B (i - 1) r s.1, set_tidy B (i - 1) r t s.0)
 move_shrinks law t (read {B = B} {i = i} {s = a} {r = r} n e) = let s = shared_is (at B i) a r e in (set_below B (i - 1) r s.left, set_tidy B (i - 1) r t s.ordered)
 move_shrinks law t (joined h k) = let x = move_shrinks law t h in let y = move_shrinks law x.1 k in (⊑_trans y.0 x.0, y.1)
+
+-- so a box that a move leads to keeps the number of nodes, and the limits
+pub move_keeps : {f : Contractor} {B C D : Box} {bs : List Bound} → Shrinks f → length B ≤ 32 → AllBetween (2 ^ 30) B → Move f B C bs → D ≡ C → (length D ≡ length B) × (length D ≤ 32) × AllBetween (2 ^ 30) D
+move_keeps {B = B} law few narrow h e = subst (λ X. (length X ≡ length B) × (length X ≤ 32) × AllBetween (2 ^ 30) X) (sym e)
+    (let s = move_shrinks law (λ j. (narrow j).1) h in
+    (move_long h, omega (arith, few, move_long h), λ k. omega (arith, ints, narrow k, s.0.each k, s.1 k)))
 
 -- and lie in every accepted reading
 abbrev pub Meets : Box → List Bound → Type 0

@@ -1,5 +1,5 @@
 -- Laws of the whole numbers: signs, products in order, and rounded quotients.
-use Rattle.std.proofs.Common.{◌≡◌, ◌≢◌, ℕ, zero, suc, ◌+◌, ◌*◌, ◌<◌, ◌≤◌, true, ◌↔◌, ℤ, pos, negsuc, ◌*ℤ◌, neg_ℤ, ◌≤ℤ◌, ◌<ℤ◌, sym, refl, ap, ◌∙◌, div-lt_iff_lt-mul, le-div_iff_mul-le, le_of_mul-le-mul_right, arith}
+use Rattle.std.proofs.Common.{◌≡◌, ◌≢◌, ℕ, zero, suc, ◌+◌, ◌*◌, ◌<◌, ◌≤◌, true, ◌↔◌, ℤ, pos, negsuc, ◌*ℤ◌, neg_ℤ, nat_abs, ◌≤ℤ◌, ◌<ℤ◌, sym, refl, ap, ◌∙◌, suc-le-suc, div-lt_iff_lt-mul, le-div_iff_mul-le, div-le_self, le_of_mul-le-mul_right, arith}
 use lib.IntN.{*ℤ_comm}
 use lib.Signed.{lt_z}
 use borrow.Author.Differences.{up, down, ints}
@@ -82,3 +82,9 @@ ceiling_is z m d s =
       λ h. let k = p.0 (omega (arith, ints)) in (λ t. o.0.0 (k.0 t), λ t. o.1.0 (k.1 t)),
       λ h. let k = p.1 (λ t. o.0.1 (h.0 t), λ t. o.1.1 (h.1 t)) in omega (arith, ints),
     )
+
+-- a quotient is no larger than what is divided
+pub quotient_within : (m d : ℤ) → pos 0 <ℤ d → nat_abs (int_div_euclid m d) ≤ nat_abs m
+quotient_within (pos m) (pos d) h = div-le_self m d
+quotient_within (negsuc m) (pos d) h = suc-le-suc (div-le_self m d)
+quotient_within m (negsuc d) h = absurd h.lt

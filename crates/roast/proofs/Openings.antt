@@ -1,17 +1,20 @@
 -- An opening succeeds exactly when every place answers, the certificate passes and the first box keeps its limit.
-use Rattle.std.proofs.Common.{◌≡◌, ◌^◌, true, eqb, leb, List, [], ◌∷◌, length, ℤ, pos, ◌≤ℤ◌, Some, None, Ok, Err, Option, refl, arith}
+use Rattle.std.proofs.Common.{◌≡◌, ◌^◌, ◌≤◌, true, eqb, leb, List, [], ◌∷◌, length, ℤ, pos, ◌≤ℤ◌, Some, None, Ok, Err, Option, sym, refl, subst, arith}
 use lib.Signed.{le_z}
 use borrow.Author.Differences.{ints}
 use Rattle.std.proofs.lemmas.Bool.{eq-eqb, le-leb, leb-true}
 use Rattle.balance.specs.declared.refusal.Refusal.{Refusal}
 use Rattle.balance.specs.declared.refusal.Refusal.TheVariants.{Dominance, Wide}
-use Rattle.balance.specs.Meanings.{Meaning}
+use Rattle.balance.specs.Ranges.{AllBetween}
+use Rattle.balance.specs.Meanings.{Meaning, Lawful}
 use Rattle.balance.specs.Places.{first, first_of, unless_refused, row_refusal, first_refusal}
 use Rattle.balance.specs.Points.{between}
 use Rattle.balance.proofs.Searches.{none_of, all_answer}
 use Rattle.roast.specs.Certificates.{number, v, k, first_box, number_refusal, certificate_refusal, dominance_refusal, wide_refusal, opening, Opens, OpensExactly}
 use Rattle.balance.proofs.Entries.{none_all, test_passed}
+use Rattle.roast.specs.Narrowing.{Box}
 use Rattle.roast.proofs.Certified.{certified}
+use Rattle.roast.proofs.FirstBox.{first_length, first_narrow}
 use Rattle.roast.proofs.Solvable.{row_unrefused}
 
 -- ---- from no refusal
@@ -69,3 +72,9 @@ opens_exactly m us = by (first_refusal m) (certificate_refusal m.size us) (first
     by None None (Some e) wo a b d w = not_opened e (rw (a, b, d))
     by None (Some e) dd wo a b d w = not_opened e (rw (a, b))
     by (Some e) bo dd wo a b d w = not_opened e (rw a)
+
+-- the box of an opening has at most 32 nodes, and keeps the limits
+pub opened_limits : (m : Meaning) (us : List ℤ) (B : Box) → Ok B ≡ opening m us → Lawful m → (length B ≤ 32) × AllBetween (2 ^ 30) B
+opened_limits m us B e lawful =
+    let opened : OpensExactly m us (Ok B) = subst (OpensExactly m us) (sym e) (opens_exactly m us) in
+    subst (λ X. (length X ≤ 32) × AllBetween (2 ^ 30) X) (sym opened.1) (omega (arith, lawful.few, first_length m us), first_narrow m us opened.0.narrow)

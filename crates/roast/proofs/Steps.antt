@@ -4,7 +4,7 @@ use native.Mathlib.Decide.{ℕ_discrete}
 use mir.Val.{bool_byte}
 use Rattle.balance.specs.declared.refusal.Refusal.{Refusal}
 use Rattle.roast.specs.Narrowing.{Box, Contractor}
-use Rattle.roast.specs.Machine.{Transition, row_step, one_more, then_step, row_steps, all_or_none, round}
+use Rattle.roast.specs.Machine.{Transition, row_step, one_more, then_step, row_steps}
 
 pub bool_byte≤1 : (b : Bool) → bool_byte b ≤ 1
 bool_byte≤1 true = omega arith
@@ -34,10 +34,7 @@ module _ (f : Contractor) (x : Box) where
       go (yes p) rest = subst (λ i. row_steps f x i ≡ (Err e, z)) p h
       go (no p) rest = ap (λ (t : Transition ℕ). then_step f (suc n) t.0 t.1) (rest (omega arith))
 
-  pub round_refused : (y z : Box) (i n : ℕ) (e : Refusal) → 1 ≤ i → i ≤ length x → row_steps f x (i - 1) ≡ (Ok n, y) → (Err e, z) ≡ row_step f y i → round f x ≡ (Err e, x)
-  round_refused y z i n e l u h p =
+  pub steps_refused : (y z : Box) (i n : ℕ) (e : Refusal) → 1 ≤ i → i ≤ length x → row_steps f x (i - 1) ≡ (Ok n, y) → (Err e, z) ≡ row_step f y i → row_steps f x (length x) ≡ (Err e, z)
+  steps_refused y z i n e l u h p =
       let s : row_steps f x i ≡ (Err e, z) = next y i n l h ∙ ap (λ (t : Transition Bool). (one_more n t.0, t.1)) (sym p) in
-      ap (λ (t : Transition ℕ). all_or_none x t.0 t.1) (stays_refused i e z s (length x) u)
-
-  pub round_done : (z : Box) (i n : ℕ) → i ≡ length x → row_steps f x i ≡ (Ok n, z) → round f x ≡ (Ok n, z)
-  round_done z i n l h = ap (λ (t : Transition ℕ). all_or_none x t.0 t.1) (subst (λ k. row_steps f x k ≡ (Ok n, z)) l h)
+      stays_refused i e z s (length x) u

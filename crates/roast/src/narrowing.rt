@@ -2,7 +2,7 @@
 ghost use Rattle.std.specs.Prelude.{◌≡◌, ◌^◌, false, length, IfSome};
 ghost use Rattle.balance.specs.Ranges.{Between};
 ghost use Rattle.roast.specs.Narrowing.{HasNode, narrowed};
-ghost use Rattle.roast.specs.Machine.{step_to, row_step, round, reading, readings, mark, changes_nothing, ends};
+ghost use Rattle.roast.specs.Machine.{step_to, row_step, row_steps, round, reading, readings, mark, changes_nothing, ends};
 ghost use Rattle.roast.specs.Assembled.{meant, Fits, FitsBox};
 
 use super::bounds::Bounds;
@@ -50,18 +50,29 @@ impl Bounds {
         self.step_to(node, range)
     }
 
-    // Row steps 1 to n, made on a copy, so that a conflict undoes them all.
+    // Row steps 1 to n, and how many of them changed a range. A refused one ends them, and those before it stay made.
+    fn row_steps(&mut self, matrix: &Matrix) -> Result<usize, Refusal>
+        requires { FitsBox matrix.now self.old }
+        ensures { (result, self.new) ≡ row_steps (narrowed (meant matrix.now)) self.old (length self.old) }
+    {
+        let mut changes = 0;
+        for node in 1..self.count() + 1 {
+            changes += usize::from(self.row_step(matrix, node)?);
+        }
+        Ok(changes)
+    }
+
+    // The same, all or none: a conflict undoes them.
     pub(crate) fn round(&mut self, matrix: &Matrix) -> Result<usize, Refusal>
         requires { FitsBox matrix.now self.old }
         ensures { (result, self.new) ≡ round (narrowed (meant matrix.now)) self.old }
     {
-        let mut next = self.copied();
-        let mut changes = 0;
-        for node in 1..self.count() + 1 {
-            changes += usize::from(next.row_step(matrix, node)?);
+        let before = self.copied();
+        let answer = self.row_steps(matrix);
+        if answer.is_err() {
+            *self = before;
         }
-        *self = next;
-        Ok(changes)
+        answer
     }
 
     // Whether the row step of a node would be accepted and change nothing.

@@ -1,4 +1,4 @@
-ghost use Rattle.std.specs.Prelude.{◌≡◌, ℕ, [], length, ◌^◌, OnOk, OnErr};
+ghost use Rattle.std.specs.Prelude.{◌≡◌, ℕ, [], length, ◌^◌, ◌≤◌, OnOk, OnErr};
 ghost use Rattle.balance.specs.Ranges.{range, AllBetween};
 ghost use Rattle.balance.specs.Meanings.{Among};
 ghost use Rattle.roast.specs.Rounding.{CommonPart, shared};
@@ -19,12 +19,15 @@ use balance::system::{System, check_node};
 /// Any one system with the box of temperatures that are still possible for its nodes.
 ///
 /// An opening assembles the system: it is asked once for each place, and what it tells is kept. Temperatures are in millidegrees Celsius.
+/// Every roast has at most 32 nodes (`few`), each range in order and within ±2^30 (`narrow`): a caller may build on both.
 #[derive(Drop)]
 pub struct Roast<S: System> {
     pub(crate) system: S,
     matrix: Matrix,
     pub(crate) bounds: Bounds,
     ghost held: { (i : ℕ) → Among (length bounds) i → Held (S.meaning system) matrix (length bounds) },
+    pub ghost few: { length bounds ≤ 32 },
+    pub ghost narrow: { AllBetween (2 ^ 30) bounds },
 }
 
 impl<S: System> Roast<S> {

@@ -86,26 +86,49 @@ module _ (n : ℕ) (ps : List ℕ) where
 node_below_is : (ps : List ℕ) (n i : ℕ) → length ps ≡ n → node_below ps n i ≡ entry_at ps i
 node_below_is ps n i count = let t : nat_eq (length ps) n ≡ true = eq-eqb (length ps) n count in rw t
 
+-- of a list that was taken for some size, over a system of any
+pub below_within : (ps : List ℕ) (k n i : ℕ) → order_refusal k ps ≡ None → 1 ≤ i → i ≤ n → (1 ≤ node_below ps n i) × (node_below ps n i ≤ n)
+below_within ps k n i taken a b = by (length ps == n) refl
+  where
+    p : IsPermutation k ps
+    p = permutes k ps taken
+
+    by : (t : Bool) → (length ps == n) ≡ t → (1 ≤ cond t (entry_at ps i) i) × (cond t (entry_at ps i) i ≤ n)
+    by true e = let c = eqb-true (length ps) n e in let w = p.1.within i a (omega (arith, p.0)) in (w.0, omega (arith, w.1, p.0))
+    by false e = (a, b)
+
+-- of any list that leads from nodes to nodes
+module _ (ps : List ℕ) (m : Meaning) (nodes : (i : ℕ) → IsNode m i → IsNode m (node_below ps m.size i)) where
+  pub coefficient_below : (i j : ℕ) → IsNode m i → IsNode m j → coefficient_answer m (node_below ps m.size i) (node_below ps m.size j) ≡ coefficient_answer (renumbered ps m) i j
+  coefficient_below i j h k = coefficient_at m _ _ (nodes i h) (nodes j k) ∙ sym (coefficient_at (renumbered ps m) i j h k)
+
+  pub right_side_below : (i : ℕ) → IsNode m i → right_side_answer m (node_below ps m.size i) ≡ right_side_answer (renumbered ps m) i
+  right_side_below i h = right_side_at m _ (nodes i h) ∙ sym (right_side_at (renumbered ps m) i h)
+
+  pub lawful_below : Lawful m → Lawful (renumbered ps m)
+  lawful_below lawful = record {
+    some = lawful.some;
+    few = lawful.few;
+    coefficients = λ i j h k. lawful.coefficients _ _ (nodes i h) (nodes j k);
+    right_sides = λ i h. lawful.right_sides _ (nodes i h);
+  }
+
+-- of a list that was taken for the system's size
 module _ (ps : List ℕ) (m : Meaning) (taken : order_refusal m.size ps ≡ None) where
   below_is : (i : ℕ) → node_below ps m.size i ≡ entry_at ps i
   below_is i = node_below_is ps m.size i (permutes m.size ps taken).0
 
   below_is_node : (i : ℕ) → IsNode m i → IsNode m (node_below ps m.size i)
-  below_is_node i h = rw (below_is i) ((permutes m.size ps taken).1.within i h.0 h.1)
+  below_is_node i h = below_within ps m.size m.size i taken h.0 h.1
 
   pub coefficient_passed : (i j : ℕ) → IsNode m i → IsNode m j → coefficient_answer m (entry_at ps i) (entry_at ps j) ≡ coefficient_answer (renumbered ps m) i j
-  coefficient_passed i j h k = (λ d. coefficient_answer m (sym (below_is i) d) (sym (below_is j) d)) ∙ coefficient_at m _ _ (below_is_node i h) (below_is_node j k) ∙ sym (coefficient_at (renumbered ps m) i j h k)
+  coefficient_passed i j h k = (λ d. coefficient_answer m (sym (below_is i) d) (sym (below_is j) d)) ∙ coefficient_below ps m below_is_node i j h k
 
   pub right_side_passed : (i : ℕ) → IsNode m i → right_side_answer m (entry_at ps i) ≡ right_side_answer (renumbered ps m) i
-  right_side_passed i h = ap (right_side_answer m) (sym (below_is i)) ∙ right_side_at m _ (below_is_node i h) ∙ sym (right_side_at (renumbered ps m) i h)
+  right_side_passed i h = ap (right_side_answer m) (sym (below_is i)) ∙ right_side_below ps m below_is_node i h
 
   pub renumbered_lawful : Lawful m → Lawful (renumbered ps m)
-  renumbered_lawful lawful = record {
-    some = lawful.some;
-    few = lawful.few;
-    coefficients = λ i j h k. lawful.coefficients _ _ (below_is_node i h) (below_is_node j k);
-    right_sides = λ i h. lawful.right_sides _ (below_is_node i h);
-  }
+  renumbered_lawful = lawful_below ps m below_is_node
 
 -- ---- the node of the layer above a node
 

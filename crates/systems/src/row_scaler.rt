@@ -28,6 +28,7 @@ fn check_factors(size: usize, factors: &[i64]) -> Result<(), Refusal>
 
 // A range times a factor; a negative one exchanges the ends. By `Range::checked_mul` the exchange would be hidden among four products, in an `Option`
 // that is always told.
+#[tactic(auto, using(crate::specs::RowScalersLemmas::product_fits, crate::specs::RowScalersLemmas::product_held))]
 fn scaled(range: Range, factor: i64) -> Range
     requires range_keeps_the_limit { Between (2 ^ 42) range }
     requires factor_keeps_the_limit { unsigned_abs factor ≤ 1024 }

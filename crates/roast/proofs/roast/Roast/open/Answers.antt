@@ -4,14 +4,14 @@ use Rattle.roast.specs.Certificates.{OpensExactly}
 use Rattle.roast.proofs.FirstBox.{k_least}
 use Rattle.roast.proofs.Meant.{opened_held, held_anew}
 use Rattle.roast.proofs.Measures.{measures_ranges}
-use Rattle.roast.proofs.Openings.{opens_exactly}
+use Rattle.roast.proofs.Openings.{opens_exactly, opened_limits}
 use Rattle.roast.proofs.Solvable.{opened_able}
 use Rattle.roast.proofs.roast.Roast.open.Goals as goal
 
 pub invariant_of-self : goal.invariant_of-self
 invariant_of-self g c =
     let s = c.args.self.now in
-    record { held = held_anew (g.S.System.meaning s.system) s.matrix c.first_bounds.new.matrix (length s.bounds) s.held c.in_err-self.ensures.assembles }
+    record { held = held_anew (g.S.System.meaning s.system) s.matrix c.first_bounds.new.matrix (length s.bounds) s.held c.in_err-self.ensures.assembles; few = s.few; narrow = s.narrow }
 
 pub returns-in_err-self-clause-is_refused_only_uncertified : goal.returns-in_err-self-clause-is_refused_only_uncertified
 returns-in_err-self-clause-is_refused_only_uncertified g c =
@@ -26,7 +26,12 @@ pub returns-in_err-self-clause-measures_ranges : goal.returns-in_err-self-clause
 returns-in_err-self-clause-measures_ranges g c = measures_ranges
 
 pub invariant_of-self-2 : goal.invariant_of-self-2
-invariant_of-self-2 g c = record { held = opened_held (g.S.System.meaning c.args.self.now.system) c.first_bounds.new.matrix c.args.certificate.now c.in_ok-self.field-0 c.in_ok-self.ensures.is c.in_ok-self.ensures.assembles }
+invariant_of-self-2 g c =
+    let s = c.args.self.now.system in
+    let m = g.S.System.meaning s in
+    let us = c.args.certificate.now in
+    let limits = opened_limits m us c.in_ok-self.field-0 c.in_ok-self.ensures.is (g.met.S.System.lawful s) in
+    record { held = opened_held m c.first_bounds.new.matrix us c.in_ok-self.field-0 c.in_ok-self.ensures.is c.in_ok-self.ensures.assembles; few = limits.0; narrow = limits.1 }
 
 pub returns-clause-opens_when_certified : goal.returns-clause-opens_when_certified
 returns-clause-opens_when_certified g c =

@@ -3,14 +3,16 @@ use Rattle.roast.specs.Assembled.{meant}
 use Rattle.roast.specs.Narrowing.{HasNode, narrowed}
 use Rattle.roast.specs.Machine.{Transition}
 use Rattle.roast.proofs.Meant.{row_step_held, still_held, common_part_held}
-use Rattle.roast.proofs.Moves.{move_long, row_step_moves}
+use Rattle.roast.proofs.Boxes.{row_shrinks}
+use Rattle.roast.proofs.Moves.{move_keeps, row_step_moves}
 use Rattle.roast.proofs.roast.Roast.row_step.Goals as goal
 
 pub invariant_of-self : goal.invariant_of-self
 invariant_of-self g c =
     let s = c.args.self.now in
-    let long = ap (λ (t : Transition Bool). length t.1) c.row_step.ensures ∙ move_long (row_step_moves (narrowed (meant s.matrix)) s.bounds c.args.node) in
-    record { held = still_held (g.S.System.meaning s.system) s.matrix (length s.bounds) (length c.row_step.new.self) long s.held }
+    let moves = row_step_moves (narrowed (meant s.matrix)) s.bounds c.args.node in
+    let kept = move_keeps (row_shrinks (meant s.matrix)) s.few s.narrow moves (ap (λ (t : Transition Bool). t.1) c.row_step.ensures) in
+    record { held = still_held (g.S.System.meaning s.system) s.matrix (length s.bounds) (length c.row_step.new.self) kept.0 s.held; few = kept.1; narrow = kept.2 }
 
 pub returns-clause-answers_and_leaves : goal.returns-clause-answers_and_leaves
 returns-clause-answers_and_leaves g c =
