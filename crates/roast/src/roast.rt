@@ -1,5 +1,5 @@
-ghost use Rattle.std.specs.Prelude.{◌≡◌, ℕ, [], length, ◌^◌, ◌≤◌, OnOk, OnErr};
-ghost use Rattle.balance.specs.Ranges.{range, AllBetween};
+ghost use Rattle.std.specs.Prelude.{◌≡◌, ℕ, [], length, ◌^◌, ◌≤◌, OnOk, OnErr, IfOk};
+ghost use Rattle.balance.specs.Ranges.{range, Between, AllBetween};
 ghost use Rattle.balance.specs.Meanings.{Among};
 ghost use Rattle.roast.specs.Rounding.{CommonPart, shared};
 ghost use Rattle.roast.specs.Certificates.{opening, Opens, first_box, k, LeastBound, MeasuresRanges};
@@ -117,9 +117,10 @@ impl<S: System> Roast<S> {
         (1..=self.bounds.count()).all(|node| self.bounds.rests(&self.matrix, node))
     }
 
-    /// A node's two ends. Refused is a node outside 1 to n (4).
+    /// A node's two ends, in order and within ±2^30. Refused is a node outside 1 to n (4).
     pub fn ends(&self, node: usize) -> Result<(i64, i64), Refusal>
         ensures answers { result ≡ ends self.now.bounds node }
+        ensures keeps_the_limits { IfOk result (λ ends. Between (2 ^ 30) (range ends.0 ends.1)) }
     {
         self.bounds.ends(node)
     }
